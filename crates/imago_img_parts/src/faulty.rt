@@ -3,10 +3,11 @@
 //! them. They are looked for once an image was refused, so only then does this cost time.
 
 use crate::host::Host;
+use crate::layer_files::FileDriver;
 use crate::streams::qcow2_in;
+use imago_access::access::FormatAccess;
 use imago_drivers::drivers::FormatDriverInstance;
 use imago_images::file::look_at;
-use imago_images::opener::FileImage;
 use imago_qcow2_check::check::{Limits, check};
 use imago_qcow2_check::fault::Fault;
 use imago_storage::storage::Storage;
@@ -36,10 +37,10 @@ pub fn invalid_entry_at<H: Host>(host: &H, path: &str) -> Option<Fault> {
 }
 
 /// The first file of an image that has an invalid entry, and its first one.
-pub fn invalid_entry_in<'b, H: Host>(
+pub fn invalid_entry_in<D: FileDriver>(
     alloc: Global,
-    image: &'b FileImage<'_, H>,
-) -> Option<(&'b str, Fault)> {
+    image: &FormatAccess<D>,
+) -> Option<(&str, Fault)> {
     let mut layer = Some(image);
     while let Some(here) = layer {
         if let (Some((path, _)), Some(file)) = (qcow2_in(here), here.inner().storage(0)) {

@@ -1,7 +1,7 @@
 // SPDX-License-Identifier: MIT
 //! What the commands ask of an opened image: whether its disk can be read, and its files.
 ghost use Rattle.std.specs.Prelude.{◌≡◌, ◌+◌, ◌<◌, ◌≤◌, length, false, IfOk, IfErr, IfSome};
-ghost use Rattle.std.specs.Prelude.{IsErr, MatchResult};
+ghost use Rattle.std.specs.Prelude.{IsErr, OnOk, MatchResult};
 ghost use Rattle.imago_access.specs.Chain.{driver};
 ghost use Rattle.imago_access.specs.Target.{target};
 ghost use Rattle.imago_copy.specs.LayerRuns.{image_of, at_of, AreReady, AreLayerRuns};
@@ -13,6 +13,7 @@ ghost use Rattle.imago_img_parts.specs.Vetted.{IsVetted, IsHostRefusal, IsHostFa
 use crate::failure::{ClusterFault, Failure, OpenError, Reason};
 use crate::faulty::{invalid_entry_at, invalid_entry_in};
 use crate::host::{FileStatus, Host};
+use crate::layer_files::FileDriver;
 use crate::short::ShortFiles;
 use crate::streams::{stream_fault_in, unoffered_in};
 use imago_access::access::FormatAccess;
@@ -83,31 +84,31 @@ fn not_opened<H: Host>(host: &H, path: &str, cause: OpenError) -> Failure
 }
 
 /// How many runs of a disk are looked for at a time.
-const MOST_RUNS: usize = 4096;
+const MOST_RUNS: usize = 1024;
 
-/// The next runs of a disk, each of one layer: as many as are left, but at most 4096. There are none
-/// at its end.
+/// Puts the next runs of a disk, each of one layer, into a list, in place of those that it had: as
+/// many as are left, but at most 1024. There are none at the disk's end.
 pub fn next_runs<D: FormatDriverInstance>(
-    alloc: Global,
     runs: &mut LayerRuns<'_, D>,
-) -> Result<Vec<LayerRun>, Error>
+    some: &mut Vec<LayerRun>,
+) -> Result<(), Error>
     requires { AreReady D.view runs.old }
     ensures image { image_of runs.new ≡ image_of runs.old }
-    ensures runs { IfOk result (λ v. AreLayerRuns (target D.view (image_of runs.old))
-        (at_of runs.old) v.items (at_of runs.new)) }
-    ensures all { IfOk result (λ v. length v.items < 4096
+    ensures runs { OnOk result (AreLayerRuns (target D.view (image_of runs.old))
+        (at_of runs.old) some.new.items (at_of runs.new)) }
+    ensures all { OnOk result (length some.new.items < 1024
         → (D.view (driver (image_of runs.old))).size ≤ at_of runs.new) }
-    ensures further { IfOk result (λ v. at_of runs.old + length v.items ≤ at_of runs.new) }
-    ensures ready { IfOk result (λ _. AreReady D.view runs.new) }
+    ensures further { OnOk result (at_of runs.old + length some.new.items ≤ at_of runs.new) }
+    ensures ready { OnOk result (AreReady D.view runs.new) }
 {
-    let mut some = Vec::new(alloc);
+    some.clear();
     while some.len() < MOST_RUNS {
         match runs.next_run()? {
             Some(run) => some.push(run)?,
-            None => return Ok(some),
+            None => return Ok(()),
         }
     }
-    Ok(some)
+    Ok(())
 }
 
 /// The size in bytes of the disk of an image, which has that path, if each place of it is mapped
@@ -122,22 +123,36 @@ pub fn readable_size<'a, 'b, H: Host>(
         ≡ (⟦<AnyDriver<PathStorage<'a, H>> as FormatDriverInstance>⟧.view
         (driver image.now)).size) }
 {
+    readable_in(alloc, path, image)
+}
+
+/// The same of an image with any driver.
+fn readable_in<'b, D: FileDriver>(
+    alloc: Global,
+    path: &str,
+    image: &'b FormatAccess<D>,
+) -> Result<(u64, ShortFiles<'b>), Failure>
+    ensures { IfOk result (λ r. r.0 ≡ (D.view (driver image.now)).size) }
+{
     let mut short = ShortFiles::new();
     match unoffered_in(image, &mut short) {
         Ok(None) => {}
         Ok(Some((file, offset))) => {
             return Err(Failure::of_cluster(alloc, file, offset, ClusterFault::Zstd));
         }
-        Err(cause) => return Err(not_read(alloc, path, image, cause)),
+        Err(cause) => {
+            let known = cause_in(alloc, image, cause);
+            return Err(known_or_told(alloc, path, known, cause));
+        }
     }
     Ok((image.size(), short))
 }
 
 /// Whether a file is one of the top layer of an image.
-fn layer_has<H: Host>(image: &FileImage<'_, H>, file: FileStatus) -> bool {
+fn layer_has<D: FileDriver>(image: &FormatAccess<D>, file: FileStatus) -> bool {
     for index in 0..image.inner().storage_count() {
-        if let Some(storage) = image.inner().storage(index) {
-            if is_same_file(storage.file().status(), file) {
+        if let Some((_, status)) = image.inner().file(index) {
+            if is_same_file(status, file) {
                 return true;
             }
         }
@@ -147,6 +162,11 @@ fn layer_has<H: Host>(image: &FileImage<'_, H>, file: FileStatus) -> bool {
 
 /// Whether a file is one of an image.
 pub fn has_file<H: Host>(image: &FileImage<'_, H>, file: FileStatus) -> bool {
+    chain_has(image, file)
+}
+
+/// The same of an image with any driver.
+fn chain_has<D: FileDriver>(image: &FormatAccess<D>, file: FileStatus) -> bool {
     let mut layer = Some(image);
     while let Some(here) = layer {
         if layer_has(here, file) {
@@ -163,19 +183,18 @@ fn is_same_file(one: FileStatus, other: FileStatus) -> bool {
 }
 
 /// The first file of the top layer of an image that wasn't read, and what the host answered.
-fn refusal_of<'b, H: Host>(image: &'b FileImage<'_, H>) -> Option<(&'b str, io::Error)> {
+fn refusal_of<D: FileDriver>(image: &FormatAccess<D>) -> Option<(&str, io::Error)> {
     for index in 0..image.inner().storage_count() {
-        if let Some(storage) = image.inner().storage(index) {
-            if let Some(answer) = storage.last_error() {
-                return Some((storage.file().path(), answer));
-            }
+        if let Some(answer) = image.inner().refusal(index) {
+            let (path, _) = image.inner().file(index)?;
+            return Some((path, answer));
         }
     }
     None
 }
 
 /// The first file of an image that wasn't read, and what the host answered.
-fn refusal_in<'b, H: Host>(image: &'b FileImage<'_, H>) -> Option<(&'b str, io::Error)> {
+fn refusal_in<D: FileDriver>(image: &FormatAccess<D>) -> Option<(&str, io::Error)> {
     let mut layer = Some(image);
     while let Some(here) = layer {
         if let Some(found) = refusal_of(here) {
@@ -195,16 +214,31 @@ pub fn not_read<H: Host>(
     image: &FileImage<'_, H>,
     cause: Error,
 ) -> Failure {
-    if let Some(why) = known_cause(alloc, image, cause) {
-        return why;
+    known_or_told(alloc, path, known_cause(alloc, image, cause), cause)
+}
+
+/// Why the image of a path wasn't read: what is known of one of its files, or else what the image
+/// layer answered.
+fn known_or_told(alloc: Global, path: &str, known: Option<Failure>, cause: Error) -> Failure {
+    match known {
+        Some(why) => why,
+        None => Failure::of_file(alloc, path, Reason::Image(cause)),
     }
-    Failure::of_file(alloc, path, Reason::Image(cause))
 }
 
 /// Why an image wasn't read, where that is known of one of its files.
 pub fn known_cause<H: Host>(
     alloc: Global,
     image: &FileImage<'_, H>,
+    cause: Error,
+) -> Option<Failure> {
+    cause_in(alloc, image, cause)
+}
+
+/// The same of an image with any driver.
+fn cause_in<D: FileDriver>(
+    alloc: Global,
+    image: &FormatAccess<D>,
     cause: Error,
 ) -> Option<Failure> {
     match cause {

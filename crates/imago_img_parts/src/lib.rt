@@ -25,6 +25,7 @@ pub mod host;
 mod image;
 mod info;
 mod json;
+mod layer_files;
 mod looked;
 mod map;
 mod measure;

@@ -18,7 +18,6 @@ use imago_access::access::FormatAccess;
 use imago_copy::layers::{LayerRun, LayerRuns};
 use imago_copy::runs::{Kind, Run};
 use imago_drivers::drivers::FormatDriverInstance;
-use imago_images::opener::FileImage;
 use imago_images::opening::Opening;
 use imago_storage::error::Error;
 use imago_storage::storage::Storage;
@@ -82,28 +81,40 @@ pub fn map_image<H: Host, W: Write>(
     output: &mut W,
 ) -> Result<(), Failure> {
     let (_, image) = opened(host, path, how)?;
-    let files = files_of(host.alloc(), &image, json)?;
-    let mut printer = Printer {
-        output,
-        json,
-        is_first: true,
-    };
-    match print_disk(host, &image, &files, &mut printer) {
+    match print_image(host, &image, json, output) {
         Ok(printed) => printed.map_err(Failure::Output),
         Err(cause) => Err(not_read(host.alloc(), path, &image, cause)),
     }
 }
 
+/// Prints the disk of an image. An error is the image's refusal, or that of memory, and one inside
+/// an answer is the output's.
+fn print_image<H: Host, D: FormatDriverInstance, W: Write>(
+    host: &H,
+    image: &FormatAccess<D>,
+    json: bool,
+    output: &mut W,
+) -> Result<io::Result<()>, Error> {
+    let files = files_of(host.alloc(), image, json)?;
+    let mut printer = Printer {
+        output,
+        json,
+        is_first: true,
+    };
+    print_disk(host, image, &files, &mut printer)
+}
+
 /// Prints the runs of the disk of an image whose layers have those files. An error is the image's
 /// refusal, and one inside an answer is the output's.
-fn print_disk<H: Host, W: Write>(
+fn print_disk<H: Host, D: FormatDriverInstance, W: Write>(
     host: &H,
-    image: &FileImage<'_, H>,
+    image: &FormatAccess<D>,
     files: &[Vec<NamedFile<'_>>],
     printer: &mut Printer<'_, W>,
 ) -> Result<io::Result<()>, Error> {
     let mut runs = LayerRuns::new(image)?;
-    let mut some = next_runs(host.alloc(), &mut runs)?;
+    let mut some = Vec::new(host.alloc());
+    next_runs(&mut runs, &mut some)?;
     if let Err(cause) = printer.begin() {
         return Ok(Err(cause));
     }
@@ -111,7 +122,7 @@ fn print_disk<H: Host, W: Write>(
         if let Err(cause) = print_runs(host, &some, files, printer) {
             return Ok(Err(cause));
         }
-        some = next_runs(host.alloc(), &mut runs)?;
+        next_runs(&mut runs, &mut some)?;
     }
     Ok(printer.end())
 }

@@ -11,7 +11,9 @@ use crate::failure::{Failure, Reason, Refusal};
 use crate::host::{Host, Making};
 use crate::image::{CHUNK, not_read, opened, readable_size};
 use crate::progress::Progress;
+use imago_access::access::FormatAccess;
 use imago_copy::target::Target;
+use imago_drivers::drivers::FormatDriverInstance;
 use imago_images::opener::FileImage;
 use imago_images::opening::Opening;
 use imago_qcow2_new::format::{Format, FormatError};
@@ -124,17 +126,27 @@ pub(crate) fn layout_for<H: Host>(
     ensures { IfOk result (λ l. (size : ℕ) × IsLayoutOf new.format size l
         × HasNoNames l) }
 {
-    if new.all {
-        return match layout_of_size(alloc, new.format, image.size(), true, None) {
-            Ok(layout) => Ok(layout),
-            Err(fault) => Err(of_format(alloc, to, fault)),
-        };
-    }
     let mut buf = vec![in alloc; 0u8; CHUNK]?;
-    match layout_of(alloc, image, new.format, None, &mut buf) {
+    match layout_in(alloc, image, new, &mut buf) {
         Ok(layout) => Ok(layout),
         Err(cause) => Err(not_written(alloc, from, to, image, cause)),
     }
+}
+
+/// The same of an image with any driver, whose disk is read by way of the buffer, if it has to be.
+fn layout_in<D: FormatDriverInstance>(
+    alloc: Global,
+    image: &FormatAccess<D>,
+    new: NewQcow2,
+    buf: &mut [u8],
+) -> Result<Layout, NewFileError>
+    ensures { IfOk result (λ l. (size : ℕ) × IsLayoutOf new.format size l
+        × HasNoNames l) }
+{
+    if new.all {
+        return Ok(layout_of_size(alloc, new.format, image.size(), true, None)?);
+    }
+    layout_of(alloc, image, new.format, None, buf)
 }
 
 /// Puts a new file of an image's disk into a target, and shows how far it is.

@@ -11,6 +11,7 @@ use crate::snapshots::{Snapshot, SnapshotTable, read_snapshots};
 use imago_images::alone::refuse_below;
 use imago_images::file::PathStorage;
 use imago_images::layer::{text_of, told_by_host};
+use imago_images::longest::{LONGEST_L1, l1_length};
 use imago_images::opening::OtherFiles;
 use imago_qcow2::fault::HeaderFault;
 use imago_qcow2::header::{self, Compression, HEAD_LENGTH, Header};
@@ -21,6 +22,7 @@ use imago_storage::ext::StorageExt;
 use imago_storage::mem::MemStorage;
 use imago_storage::storage::Storage;
 use std::alloc::Global;
+use std::fmt::Display;
 use std::io::{self, Write};
 
 /// What a qcow2 file is.
@@ -42,6 +44,8 @@ struct Unsupported {
     encryption: bool,
     /// Incompatible features, each by its bit.
     features: u64,
+    /// How many bytes its L1 table has, if these are too many.
+    long_l1: Option<u64>,
 }
 
 impl Unsupported {
@@ -49,6 +53,7 @@ impl Unsupported {
     const NONE: Unsupported = Unsupported {
         encryption: false,
         features: 0,
+        long_l1: None,
     };
 
     /// Whether the feature of a bit is one of them.
@@ -123,6 +128,10 @@ fn head_of(mut bytes: [u8; HEAD_LENGTH], file: u64) -> Result<Head, HeaderFault>
         }
     }
     let header = header::read(&bytes, file)?;
+    let taken = l1_length(&bytes);
+    if taken > LONGEST_L1 {
+        unsupported.long_l1 = Some(taken);
+    }
     Ok(Head {
         bytes,
         header,
@@ -329,6 +338,9 @@ fn print_unsupported<W: Write>(unsupported: Unsupported, output: &mut W) -> io::
             )?;
         }
     }
+    if let Some(taken) = unsupported.long_l1 {
+        writeln!(output, "can't be opened: {}", Reason::L1TooLong(taken))?;
+    }
     Ok(())
 }
 
@@ -410,24 +422,33 @@ fn print_unsupported_json<W: Write>(
     let mut end = "";
     if unsupported.encryption {
         write!(output, "{start}")?;
-        print_fault(alloc, HeaderFault::Encryption, output)?;
+        print_reason(alloc, HeaderFault::Encryption, output)?;
         start = ", ";
         end = "]";
     }
     for bit in 0..64u32 {
         if unsupported.has(bit) {
             write!(output, "{start}")?;
-            print_fault(alloc, HeaderFault::Features(1 << bit), output)?;
+            print_reason(alloc, HeaderFault::Features(1 << bit), output)?;
             start = ", ";
             end = "]";
         }
     }
+    if let Some(taken) = unsupported.long_l1 {
+        write!(output, "{start}")?;
+        print_reason(alloc, Reason::L1TooLong(taken), output)?;
+        end = "]";
+    }
     write!(output, "{end}")
 }
 
-/// Prints a fault as a JSON string.
-fn print_fault<W: Write>(alloc: Global, fault: HeaderFault, output: &mut W) -> io::Result<()> {
-    let text = format!(in alloc; "{fault}")?;
+/// Prints a reason as a JSON string.
+fn print_reason<R: Display + Drop, W: Write>(
+    alloc: Global,
+    reason: R,
+    output: &mut W,
+) -> io::Result<()> {
+    let text = format!(in alloc; "{reason}")?;
     write!(output, "{}", quoted(alloc, &text)?)
 }
 

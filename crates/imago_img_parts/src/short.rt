@@ -1,11 +1,9 @@
 // SPDX-License-Identifier: MIT
 //! Files of an image that end before the bytes which its disk has there.
 
-use crate::host::Host;
-use imago_any_driver::any::AnyDriver;
+use crate::layer_files::FileDriver;
+use imago_access::access::FormatAccess;
 use imago_copy::runs::{Kind, Run};
-use imago_drivers::drivers::FormatDriverInstance;
-use imago_images::opener::FileImage;
 use std::io::{self, Write};
 
 /// How many files are told at most.
@@ -30,16 +28,16 @@ pub struct ShortFiles<'a> {
 }
 
 /// How many bytes may lack behind a file's end. The last cluster of a qcow2 file may be cut.
-fn tolerance<H: Host>(layer: &FileImage<'_, H>) -> u64 {
-    match layer.inner() {
-        AnyDriver::Qcow2(qcow2) => qcow2.header().cluster_size().saturating_sub(1),
-        _ => 0,
+fn tolerance<D: FileDriver>(driver: &D) -> u64 {
+    match driver.qcow2() {
+        Some(qcow2) => qcow2.header().cluster_size().saturating_sub(1),
+        None => 0,
     }
 }
 
 /// The file of a layer in which a run of it stands, if the file ends before the run does. What is
 /// told of the file's length is what it was when it was looked at.
-pub fn short_file<'a, H: Host>(layer: &'a FileImage<'_, H>, run: Run) -> Option<ShortFile<'a>> {
+pub fn short_file<D: FileDriver>(layer: &FormatAccess<D>, run: Run) -> Option<ShortFile<'_>> {
     let Kind::Stored {
         storage,
         offset,
@@ -48,17 +46,13 @@ pub fn short_file<'a, H: Host>(layer: &'a FileImage<'_, H>, run: Run) -> Option<
     else {
         return None;
     };
-    let file = layer.inner().storage(storage)?.file();
-    let length = file.status().length;
+    let (path, status) = layer.inner().file(storage)?;
+    let length = status.length;
     let end = offset.saturating_add(run.count);
-    if end.saturating_sub(length) <= tolerance(layer) {
+    if end.saturating_sub(length) <= tolerance(layer.inner()) {
         return None;
     }
-    Some(ShortFile {
-        path: file.path(),
-        length,
-        end,
-    })
+    Some(ShortFile { path, length, end })
 }
 
 impl<'a> ShortFiles<'a> {

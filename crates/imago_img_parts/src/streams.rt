@@ -7,14 +7,11 @@
 //! these cost time.
 
 use crate::failure::ClusterFault;
-use crate::host::Host;
+use crate::layer_files::FileDriver;
 use crate::short::{ShortFile, ShortFiles, short_file};
 use imago_access::access::FormatAccess;
-use imago_any_driver::any::AnyDriver;
 use imago_copy::runs::{Kind, Run, Runs};
 use imago_drivers::drivers::FormatDriverInstance;
-use imago_images::file::PathStorage;
-use imago_images::opener::FileImage;
 use imago_qcow2::header::Compression;
 use imago_qcow2::qcow2::Qcow2;
 use imago_storage::error::Error;
@@ -39,23 +36,17 @@ fn layer_at<D: FormatDriverInstance>(
 }
 
 /// The path of the file that a layer stands in, and its driver, if it is a qcow2 image.
-pub fn qcow2_in<'b, 'a, H: Host>(
-    layer: &'b FileImage<'a, H>,
-) -> Option<(&'b str, &'b Qcow2<PathStorage<'a, H>>)> {
-    match layer.inner() {
-        AnyDriver::Qcow2(qcow2) => match layer.inner().storage(0) {
-            Some(storage) => Some((storage.file().path(), qcow2)),
-            None => None,
-        },
-        _ => None,
-    }
+pub fn qcow2_in<D: FileDriver>(layer: &FormatAccess<D>) -> Option<(&str, &Qcow2<D::Storage>)> {
+    let qcow2 = layer.inner().qcow2()?;
+    let (path, _) = layer.inner().file(0)?;
+    Some((path, qcow2))
 }
 
 /// The same of the layer that makes up the bytes of a run.
-fn qcow2_of<'b, 'a, H: Host>(
-    image: &'b FileImage<'a, H>,
+fn qcow2_of<D: FileDriver>(
+    image: &FormatAccess<D>,
     run: Run,
-) -> Option<(&'b str, &'b Qcow2<PathStorage<'a, H>>)> {
+) -> Option<(&str, &Qcow2<D::Storage>)> {
     match run.kind {
         Kind::Special { layer, .. } => match layer_at(image, layer) {
             Some(layer) => qcow2_in(layer),
@@ -73,7 +64,7 @@ fn cluster_start<S: Storage>(qcow2: &Qcow2<S>, at: u64) -> u64 {
 
 /// A cluster of a disk that is compressed in a way that isn't offered: the file that has it, and
 /// where it begins on the disk.
-fn unoffered<'b, H: Host>(image: &'b FileImage<'_, H>, run: Run) -> Option<(&'b str, u64)> {
+fn unoffered<D: FileDriver>(image: &FormatAccess<D>, run: Run) -> Option<(&str, u64)> {
     let (path, qcow2) = qcow2_of(image, run)?;
     if qcow2.header().compression() == Compression::Zstd {
         return Some((path, cluster_start(qcow2, run.at)));
@@ -82,7 +73,7 @@ fn unoffered<'b, H: Host>(image: &'b FileImage<'_, H>, run: Run) -> Option<(&'b 
 }
 
 /// The file in which a run of a disk stands, if it ends before the run does.
-fn short_of<'b, H: Host>(image: &'b FileImage<'_, H>, run: Run) -> Option<ShortFile<'b>> {
+fn short_of<D: FileDriver>(image: &FormatAccess<D>, run: Run) -> Option<ShortFile<'_>> {
     match run.kind {
         Kind::Stored { layer, .. } => short_file(layer_at(image, layer)?, run),
         _ => None,
@@ -92,8 +83,8 @@ fn short_of<'b, H: Host>(image: &'b FileImage<'_, H>, run: Run) -> Option<ShortF
 /// The file that has the first cluster of a disk that is compressed in a way that isn't offered,
 /// and where that cluster begins on the disk, if there is one. The files that end before bytes of
 /// the disk do are put to the others, as far as they come before it.
-pub fn unoffered_in<'b, H: Host>(
-    image: &'b FileImage<'_, H>,
+pub fn unoffered_in<'b, D: FileDriver>(
+    image: &'b FormatAccess<D>,
     short: &mut ShortFiles<'b>,
 ) -> Result<Option<(&'b str, u64)>, Error> {
     let mut runs = Runs::new(image)?;
@@ -112,10 +103,10 @@ pub fn unoffered_in<'b, H: Host>(
 /// The first compressed cluster of a disk that can't be decoded: the file that has it, where it
 /// begins on the disk, and its fault. There is none where the disk can't be read for another
 /// reason.
-pub fn stream_fault_in<'b, H: Host>(
+pub fn stream_fault_in<D: FileDriver>(
     alloc: Global,
-    image: &'b FileImage<'_, H>,
-) -> Option<(&'b str, u64, ClusterFault)> {
+    image: &FormatAccess<D>,
+) -> Option<(&str, u64, ClusterFault)> {
     let Ok(mut runs) = Runs::new(image) else {
         return None;
     };

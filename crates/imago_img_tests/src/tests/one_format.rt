@@ -251,7 +251,7 @@ static LONG: [PartsRow; 3] = [
     ),
 ];
 
-static LONG_CASES: [Case; 5] = [
+static LONG_CASES: [Case; 7] = [
     refused!(
         "map --tables 1G long.qcow2",
         1,
@@ -269,6 +269,32 @@ static LONG_CASES: [Case; 5] = [
          MiB is the limit\n"
     ),
     made!("convert longest.qcow2 out.raw", 2048, &[]),
+    Case {
+        words: "info long.qcow2",
+        appends: 99,
+        finishes: true,
+        status: 0,
+        output: "image: \"long.qcow2\"\nfile format: qcow2\nvirtual size: 2 KiB (2048 bytes)\n\
+                 disk size: 32 MiB\ncluster_size: 512\nFormat specific information:\n\
+                 \x20   compat: 0.10\n\x20   compression type: zlib\n\
+                 \x20   refcount bits: 16\n\
+                 can't be opened: its L1 table has 33554440 bytes, and 32 MiB is the limit\n",
+        errors: "",
+        written: None,
+    },
+    Case {
+        words: "info --json long.qcow2",
+        appends: 99,
+        finishes: true,
+        status: 0,
+        output: "{ \"filename\": \"long.qcow2\", \"format\": \"qcow2\", \"virtual-size\": 2048, \
+                 \"actual-size\": 33554952, \"cluster-size\": 512, \"dirty-flag\": false, \
+                 \"format-specific\": { \"type\": \"qcow2\", \"data\": { \"compat\": \"0.10\", \
+                 \"compression-type\": \"zlib\", \"refcount-bits\": 16 } }, \"unsupported\": \
+                 [\"its L1 table has 33554440 bytes, and 32 MiB is the limit\"] }\n",
+        errors: "",
+        written: None,
+    },
     Case {
         words: "vet long.qcow2",
         appends: 99,

@@ -1,6 +1,5 @@
 -- SPDX-License-Identifier: MIT
-use Rattle.std.proofs.Common.{◌≡◌, ◌+◌, ◌≤◌, ◌∙◌, List, Option, Some, length, sym, subst, arith}
-use Rattle.std.proofs.Common.{◌++◌, [], ◌∷◌}
+use Rattle.std.proofs.Common.{◌∙◌, List, Option, Some, sym, subst, arith}
 use Rattle.imago_access.specs.declared.access.FormatAccess.{FormatAccess}
 use Rattle.imago_access.specs.Target.{target}
 use Rattle.imago_copy.specs.declared.layers.LayerRun.{LayerRun}

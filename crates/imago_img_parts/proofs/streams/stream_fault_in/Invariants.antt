@@ -2,21 +2,16 @@
 use Rattle.std.proofs.Common.{◌≡◌, ◌-◌}
 use Rattle.imago_access.specs.Chain.{driver}
 use Rattle.imago_copy.specs.RunsOf.{image_of, at_of, IsReady}
-use Rattle.imago_any_driver.specs.AnyDriver.{view_over}
-use Rattle.imago_file.specs.StorageParts.{faults_of}
-use Rattle.imago_images.proofs.PathSteps.{features_of, bytes_of}
 use Rattle.imago_img_parts.proofs.streams.stream_fault_in.Given as goal
 
 abbrev pub invariant-loop-run : goal.invariant-loop-run
 invariant-loop-run g l =
-    let view = view_over (features_of g.H.Files.contents g.H.File.HostFile.contents) faults_of
-    (bytes_of g.H.Files.contents g.H.File.HostFile.contents) in record {
+    let view = g.D.FormatDriverInstance.view in record {
       image : image_of l.runs ≡ l.image;
       ready : IsReady view l.runs;
     }
 
 abbrev pub decreases-loop-run : goal.decreases-loop-run
 decreases-loop-run g l =
-    let view = view_over (features_of g.H.Files.contents g.H.File.HostFile.contents) faults_of
-    (bytes_of g.H.Files.contents g.H.File.HostFile.contents) in
+    let view = g.D.FormatDriverInstance.view in
     (view (driver l.image)).size - at_of l.runs
