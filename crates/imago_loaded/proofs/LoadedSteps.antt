@@ -2,7 +2,8 @@
 -- SPDX-License-Identifier: MIT
 use Rattle.std.proofs.Common.{◌≡◌, ℕ, ◌+◌, ◌-◌, ◌*◌, ◌%◌, ◌/◌, ◌<◌, ◌≤◌, ⊎_elim, inl, List, length, Result, Ok, Err, OnOk, refl, sym, ap, subst, ◌∙◌, arith, false}
 use Rattle.std.specs.Prelude.{slice_index, max, Option, Some, None, IsSome, IsTrue}
-use Rattle.std.specs.declared.vec.Vec.{Vec}
+use Rattle.std.specs.declared.sync.ArcSlice.{ArcSlice}
+use Rattle.std.specs.Arc.{arc_slice_items}
 use Rattle.std.specs.declared.alloc.Global.{Global}
 use Rattle.std.specs.BTreeMap.{is_at, Updates}
 use Rattle.std.specs.Ordering.{nat_cmp}
@@ -75,7 +76,7 @@ refused f at source e =
       no_longer = h.no_longer;
     }
 
-block_byte : (file : List ℕ) (k n i : ℕ) (o : Option (Vec ℕ Global)) → IsSome o → IsBlockOf file k n o → i < k → byte_in o i ≡ slice_index file (n * k + i)
+block_byte : (file : List ℕ) (k n i : ℕ) (o : Option (ArcSlice ℕ Global)) → IsSome o → IsBlockOf file k n o → i < k → byte_in o i ≡ slice_index file (n * k + i)
 block_byte file k n i None there h lt = absurd (no_false there)
 block_byte file k n i (Some v) there h lt = h i lt
 
@@ -102,14 +103,14 @@ not_at : (a q : ℕ) → (a ≡ q → ⊥) → is_at (nat_cmp a) q ≡ false
 not_at a q apart = grind (arith, nat_tests)
 
 -- one block more
-module _ (old new : LoadedFile) (n : ℕ) (v : Vec ℕ Global) (same : new.block ≡ old.block) (u : Updates nat_cmp old.blocks new.blocks n (Some v)) where
+module _ (old new : LoadedFile) (n : ℕ) (v : ArcSlice ℕ Global) (same : new.block ≡ old.block) (u : Updates nat_cmp old.blocks new.blocks n (Some v)) where
   here : block_at new n ≡ Some v
   here = u.1
 
   elsewhere : (q : ℕ) → (n ≡ q → ⊥) → block_at new q ≡ block_at old q
   elsewhere q apart = u.2 q (not_at n q apart)
 
-  pub has_more : (file : List ℕ) → ((i : ℕ) → i < old.block → slice_index v.items i ≡ slice_index file (n * old.block + i)) → HasBytesOf file old → HasBytesOf file new
+  pub has_more : (file : List ℕ) → ((i : ℕ) → i < old.block → slice_index (arc_slice_items v) i ≡ slice_index file (n * old.block + i)) → HasBytesOf file old → HasBytesOf file new
   has_more file read has q = ⊎_elim
       (λ e. subst (λ k. IsBlockOf file new.block k (block_at new k)) e (rw (here, same) read))
       (λ apart. rw (elsewhere q apart, same) (has q))
@@ -164,19 +165,27 @@ byte_in_part f p i inside within =
     ∙ ap (byte_in (block_at f (p / f.block))) (same_rest p i f.block within)
 
 -- what is read of a block is read of the file
-pub in_block : (f : LoadedFile) (p : ℕ) (xs buf : List ℕ) (v : Vec ℕ Global) → p + length buf ≤ f.length → p % f.block + length buf ≤ f.block
-    → Some v ≡ block_at f (p / f.block) → xs ≡ v.items → IsReadAt xs (p % f.block) buf → IsReadAt (loaded_bytes f) p buf
+pub in_block : (f : LoadedFile) (p : ℕ) (xs buf : List ℕ) (v : ArcSlice ℕ Global) → p + length buf ≤ f.length → p % f.block + length buf ≤ f.block
+    → Some v ≡ block_at f (p / f.block) → xs ≡ arc_slice_items v → IsReadAt xs (p % f.block) buf → IsReadAt (loaded_bytes f) p buf
 in_block f p xs buf v inside within e is read i lt =
     read i lt
     ∙ ap (λ (ys : List ℕ). slice_index ys (p % f.block + i)) is
-    ∙ ap (λ (o : Option (Vec ℕ Global)). byte_in o (p % f.block + i)) e
+    ∙ ap (λ (o : Option (ArcSlice ℕ Global)). byte_in o (p % f.block + i)) e
     ∙ sym (byte_in_part f p i (omega (arith, inside, lt)) (omega (arith, within, lt)))
+
+-- what is a whole block, and its copy, is read of the file
+pub whole_block : (f : LoadedFile) (p : ℕ) (v copy : ArcSlice ℕ Global) → p % f.block ≡ 0 → p + f.block ≤ f.length → Some v ≡ block_at f (p / f.block)
+    → length (arc_slice_items v) ≡ f.block → arc_slice_items copy ≡ arc_slice_items v → IsReadAt (loaded_bytes f) p (arc_slice_items copy)
+whole_block f p v copy zero inside there whole same =
+    let len : length (arc_slice_items copy) ≡ f.block = ap length same ∙ whole in
+    in_block f p (arc_slice_items v) (arc_slice_items copy) v (omega (arith, len, inside)) (omega (arith, len, zero)) there refl
+    (λ i lt. let e : p % f.block + i ≡ i = omega (arith, zero) in ap (λ (ys : List ℕ). slice_index ys i) same ∙ sym (ap (slice_index (arc_slice_items v)) e))
 
 pub in_none : (f : LoadedFile) (p : ℕ) (buf : List ℕ) → p + length buf ≤ f.length → p % f.block + length buf ≤ f.block
     → None ≡ block_at f (p / f.block) → ((i : ℕ) → i < length buf → slice_index buf i ≡ 0) → IsReadAt (loaded_bytes f) p buf
 in_none f p buf inside within e zero i lt =
     zero i lt
-    ∙ ap (λ (o : Option (Vec ℕ Global)). byte_in o (p % f.block + i)) e
+    ∙ ap (λ (o : Option (ArcSlice ℕ Global)). byte_in o (p % f.block + i)) e
     ∙ sym (byte_in_part f p i (omega (arith, inside, lt)) (omega (arith, within, lt)))
 
 -- a range of a file that is in memory

@@ -2,16 +2,17 @@
 use Rattle.std.specs.Prelude.{◌≡◌, ℕ, ◌+◌, ◌*◌, ◌%◌, ◌/◌, ◌<◌, ◌≤◌, List, map, slice_index}
 use Rattle.std.specs.Prelude.{Option, Some, None, IsSome}
 use Rattle.std.specs.List.{range_with_len}
-use Rattle.std.specs.declared.vec.Vec.{Vec}
+use Rattle.std.specs.declared.sync.ArcSlice.{ArcSlice}
+use Rattle.std.specs.Arc.{arc_slice_items}
 use Rattle.std.specs.declared.alloc.Global.{Global}
 use Rattle.std.specs.BTreeMap.{get}
 use Rattle.std.specs.Ordering.{nat_cmp}
 use Rattle.imago_loaded.specs.declared.loaded.LoadedFile.{LoadedFile}
 
 -- a byte of a block, 0 where the block isn't in memory
-abbrev pub byte_in : Option (Vec ℕ Global) → ℕ → ℕ
+abbrev pub byte_in : Option (ArcSlice ℕ Global) → ℕ → ℕ
 byte_in None i = 0
-byte_in (Some block) i = slice_index block.items i
+byte_in (Some block) i = slice_index (arc_slice_items block) i
 
 -- how many bytes a block of a file has, and the file
 abbrev pub block_length : LoadedFile → ℕ
@@ -21,7 +22,7 @@ abbrev pub file_length : LoadedFile → ℕ
 file_length f = f.length
 
 -- the block of that number, if it is in memory
-abbrev pub block_at : LoadedFile → ℕ → Option (Vec ℕ Global)
+abbrev pub block_at : LoadedFile → ℕ → Option (ArcSlice ℕ Global)
 block_at f n = get nat_cmp f.blocks n
 
 -- the byte at an offset of the file
@@ -33,10 +34,10 @@ abbrev pub loaded_bytes : LoadedFile → List ℕ
 loaded_bytes f = map (loaded_byte f) (range_with_len 0 f.length)
 
 -- a block, if it is in memory, has the bytes of a file that are in it
-abbrev pub IsBlockOf : List ℕ → ℕ → ℕ → Option (Vec ℕ Global) → Type 0
+abbrev pub IsBlockOf : List ℕ → ℕ → ℕ → Option (ArcSlice ℕ Global) → Type 0
 IsBlockOf file length n None = Unit {0}
 IsBlockOf file length n (Some block) =
-    (i : ℕ) → i < length → slice_index block.items i ≡ slice_index file (n * length + i)
+    (i : ℕ) → i < length → slice_index (arc_slice_items block) i ≡ slice_index file (n * length + i)
 
 -- what is in memory are bytes of that file
 abbrev pub HasBytesOf : List ℕ → LoadedFile → Type 0

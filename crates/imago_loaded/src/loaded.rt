@@ -1,13 +1,15 @@
 // SPDX-License-Identifier: MIT
 //! A file of which some blocks are in memory.
 ghost use Rattle.std.specs.Prelude.{◌≡◌, ℕ, ◌+◌, ◌*◌, ◌%◌, ◌^◌, ◌<◌, ◌≤◌, List, length};
-ghost use Rattle.std.specs.Prelude.{slice_index, OnOk, IfErr, IsTrue, ◌↔◌};
+ghost use Rattle.std.specs.Prelude.{slice_index, OnOk, IfErr, IfSome, IsTrue, ◌↔◌};
+ghost use Rattle.std.specs.Arc.{arc_slice_items};
 ghost use Rattle.imago_storage.specs.Bytes.{IsReadAt};
 ghost use Rattle.imago_storage.specs.IoCount.{no_work};
 ghost use Rattle.imago_storage.specs.Maintenance.{no_maintenance};
 ghost use Rattle.imago_storage.specs.Openings.{no_openings};
 ghost use Rattle.imago_loaded.specs.Features.{loaded_features, loaded_lawful};
 
+use imago_qcow2::memory::TableMemory;
 use imago_storage::error::Error;
 use imago_storage::storage::{
     PreallocateMode, Storage, StorageCreateOptions, StorageOpenOptions, ZeroKind,
@@ -15,6 +17,7 @@ use imago_storage::storage::{
 use std::alloc::Global;
 use std::collections::BTreeMap;
 use std::fmt;
+use std::sync::ArcSlice;
 
 /// A file of which some blocks are in memory, by their numbers. Bytes of others are told as 0.
 ///
@@ -25,7 +28,7 @@ pub struct LoadedFile {
     length: u64,
     /// How many bytes a block has.
     block: u64,
-    blocks: BTreeMap<u64, Vec<u8>>,
+    blocks: BTreeMap<u64, ArcSlice<u8>>,
     ghost positive: { 0 < block },
 }
 
@@ -131,7 +134,8 @@ impl LoadedFile {
         self.blocks.get(&number).is_some()
     }
 
-    /// Puts the block of that number into memory, and lets go of one that was there.
+    /// Puts the block of that number into memory, and lets go of one that was there. An image that
+    /// shares that one keeps it.
     ///
     /// [`Error::Memory`] is no room for it.
     pub fn put_block(&mut self, number: u64, block: Vec<u8>) -> Result<(), Error>
@@ -143,8 +147,42 @@ impl LoadedFile {
             → HasBytesOf file self.new) }
         ensures memory { IfErr result (λ e. e ≡ Error.Memory) }
     {
-        self.blocks.insert(number, block)?;
+        let shared = ArcSlice::from_vec(block)?;
+        self.blocks.insert(number, shared)?;
         Ok(())
+    }
+
+    /// So many bytes from the offset on, if they are one whole block that is in memory: shared, not
+    /// copied. `None` is any other range, and also a block that has too many owners.
+    pub fn whole_block(&self, at: u64, count: u64) -> Option<ArcSlice<u8>>
+        ensures whole { IfSome result (λ v. length (arc_slice_items v) ≡ count) }
+        ensures read { IfSome result (λ v. IsReadAt (loaded_bytes self.now) at (arc_slice_items v)) }
+    {
+        if count != self.block || at % self.block != 0 {
+            return None;
+        }
+        if at > self.length || count > self.length - at {
+            return None;
+        }
+        let Some(block) = self.blocks.get(&(at / self.block)) else {
+            return None;
+        };
+        if block.len() as u64 != count {
+            return None;
+        }
+        match block.clone() {
+            Ok(shared) => Some(shared),
+            Err(_) => None,
+        }
+    }
+}
+
+/// Shares the blocks of a [`LoadedFile`]: a table that is one whole block isn't copied.
+pub struct WholeBlocks;
+
+impl TableMemory<LoadedFile> for WholeBlocks {
+    fn shared(&self, storage: &LoadedFile, at: u64, count: u64) -> Option<ArcSlice<u8>> {
+        storage.whole_block(at, count)
     }
 }
 

@@ -2,7 +2,8 @@
 -- SPDX-License-Identifier: MIT
 use Rattle.std.proofs.Common.{zero, suc, ◌≡◌, ℕ, ◌+◌, ◌-◌, ◌*◌, ◌/◌, ◌%◌, ◌^◌, ◌<◌, ◌≤◌, ⊎_elim, List, [], ◌∷◌, ◌++◌, length, get_or, Option, Some, None, refl, sym, ap, ◌∙◌, arith}
 use Rattle.std.specs.Prelude.{slice_get, IfSome, IfErr, Result, Ok, Err}
-use Rattle.std.specs.declared.vec.Vec.{Vec}
+use Rattle.std.specs.declared.sync.ArcSlice.{ArcSlice}
+use Rattle.std.specs.Arc.{arc_slice_items}
 use Rattle.std.specs.declared.alloc.Global.{Global}
 use Rattle.std.proofs.lemmas.Nat.{div-add-mod', div-mul-add, mod-mul-add, div_below}
 use Rattle.std.proofs.Math.Nat.{div-div-eq-div-mul, mod-lt, zero-mod}
@@ -31,9 +32,9 @@ absent_entry version cluster entry h =
     let b : high entry % 64 ≡ 0 = omega (arith, h) in
     rw (a, b, l, zero-mod cluster) refl
 
-pub absent_said : (loaded : LoadedImage) (k : ℕ) (x : Option (Vec ℕ Global)) → IsAbsentEntry x (k % (loaded.cluster / 8)) → entry_cluster loaded k x ≡ GuestCluster.Absent
+pub absent_said : (loaded : LoadedImage) (k : ℕ) (x : Option (ArcSlice ℕ Global)) → IsAbsentEntry x (k % (loaded.cluster / 8)) → entry_cluster loaded k x ≡ GuestCluster.Absent
 absent_said loaded k None h = absurd h
-absent_said loaded k (Some t) h = absent_entry loaded.version loaded.cluster (be64 t.items (8 * (k % (loaded.cluster / 8)))) h
+absent_said loaded k (Some t) h = absent_entry loaded.version loaded.cluster (be64 (arc_slice_items t) (8 * (k % (loaded.cluster / 8)))) h
 
 -- two runs, of which the second begins where the first ends
 pub joined : (loaded : LoadedImage) (k m n : ℕ) → AreAbsent loaded k m → AreAbsent loaded (k + m) n → AreAbsent loaded k (m + n)

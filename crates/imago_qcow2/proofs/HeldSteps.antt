@@ -3,7 +3,8 @@
 use Rattle.std.proofs.Common.{◌≡◌, ℕ, ◌+◌, ◌-◌, ◌*◌, ◌/◌, ◌%◌, ◌<◌, ◌≤◌, List, length, get_or, Option, Some, None, refl, sym, ap, ◌∙◌, arith}
 use Rattle.std.specs.Prelude.{slice_get, IfSome}
 use Rattle.std.specs.Int.{div_ceil}
-use Rattle.std.specs.declared.vec.Vec.{Vec}
+use Rattle.std.specs.declared.sync.ArcSlice.{ArcSlice}
+use Rattle.std.specs.Arc.{arc_slice_items}
 use Rattle.std.specs.declared.alloc.Global.{Global}
 use Rattle.std.proofs.Props.{props}
 use Rattle.std.proofs.Math.Logic.{∥∥₁_elim}
@@ -76,14 +77,14 @@ module _ (loaded : LoadedImage) (least : 512 ≤ loaded.cluster) where
   pub index_fits : (o : ℕ) → 8 * (o / loaded.cluster % (loaded.cluster / 8)) + 8 ≤ loaded.cluster
   index_fits o = let x : o / loaded.cluster % (loaded.cluster / 8) < loaded.cluster / 8 = mod-lt (o / loaded.cluster) (let y : 0 < loaded.cluster / 8 = omega (arith, least) in y) in omega (arith, x)
 
-  entry_said : (o entry : ℕ) (x : Option (Vec ℕ Global)) → (x ≡ None → ⊥) → IfSome x (λ t. entry ≡ be64 t.items (8 * (o / loaded.cluster % (loaded.cluster / 8))))
+  entry_said : (o entry : ℕ) (x : Option (ArcSlice ℕ Global)) → (x ≡ None → ⊥) → IfSome x (λ t. entry ≡ be64 (arc_slice_items t) (8 * (o / loaded.cluster % (loaded.cluster / 8))))
       → entry_cluster loaded (o / loaded.cluster) x ≡ cluster_in_entry loaded.version loaded.cluster entry
   entry_said o entry None some h = absurd (some refl)
   entry_said o entry (Some t) some h = ap (cluster_in_entry loaded.version loaded.cluster) (sym h)
 
   -- with one, the guest cluster is what the entry says
   pub by_entry : (o i number entry : ℕ) → i < loaded.cluster - o % loaded.cluster → slice_get loaded.l1 (o / span) ≡ Some (HeldTable.Loaded number) → (slice_get loaded.l2 number ≡ None → ⊥)
-      → IfSome (slice_get loaded.l2 number) (λ t. entry ≡ be64 t.items (8 * (o / loaded.cluster % (loaded.cluster / 8)))) → loaded_cluster loaded ((o + i) / loaded.cluster) ≡ cluster_in_entry loaded.version loaded.cluster entry
+      → IfSome (slice_get loaded.l2 number) (λ t. entry ≡ be64 (arc_slice_items t) (8 * (o / loaded.cluster % (loaded.cluster / 8)))) → loaded_cluster loaded ((o + i) / loaded.cluster) ≡ cluster_in_entry loaded.version loaded.cluster entry
   by_entry o i number entry near there some is =
       ap (loaded_cluster loaded) (same_block loaded.cluster (omega (arith, least)) o i near)
       ∙ by_held o (HeldTable.Loaded number) there ∙ entry_said o entry (slice_get loaded.l2 number) some is
@@ -99,7 +100,7 @@ module _ (f : Features) (bytes : List ℕ) (h : Header) (tables : Tables) (i num
   pub table_there : ∥ IsLoadedImage f bytes h tables ∥₁ → slice_get tables.l2.items number ≡ None → ⊥
   table_there l none = let p : IsProp ⊥ = Prim.hlevel props in ∥∥₁_elim l p (λ x. let y = table_at x in let there = y.2.there in let z : ⊥ = cc in z)
 
-  pub within_there : (index : ℕ) → 8 * index + 8 ≤ header_cluster h → ∥ IsLoadedImage f bytes h tables ∥₁ → IfSome (slice_get tables.l2.items number) (λ table. 8 * index + 8 ≤ length table.items)
+  pub within_there : (index : ℕ) → 8 * index + 8 ≤ header_cluster h → ∥ IsLoadedImage f bytes h tables ∥₁ → IfSome (slice_get tables.l2.items number) (λ table. 8 * index + 8 ≤ length (arc_slice_items table))
   within_there index fits l =
-      let p : IsProp (IfSome (slice_get tables.l2.items number) (λ table. 8 * index + 8 ≤ length table.items)) = Prim.hlevel props in
+      let p : IsProp (IfSome (slice_get tables.l2.items number) (λ table. 8 * index + 8 ≤ length (arc_slice_items table))) = Prim.hlevel props in
       ∥∥₁_elim l p (λ x. let y = table_at x in rw y.2.there (omega (arith, y.2.whole, fits)))

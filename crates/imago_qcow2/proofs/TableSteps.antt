@@ -2,7 +2,8 @@
 -- SPDX-License-Identifier: MIT
 use Rattle.std.proofs.Common.{zero, suc, ◌≡◌, ℕ, ◌+◌, ◌*◌, ◌<◌, ◌≤◌, ⊎_elim, inl, inr, List, [], ◌∷◌, ◌++◌, length, length-append, false, Option, Some, None, refl, ap, ◌∙◌, arith}
 use Rattle.std.specs.Prelude.{slice_get, IfSome, IsTrue}
-use Rattle.std.specs.declared.vec.Vec.{Vec}
+use Rattle.std.specs.declared.sync.ArcSlice.{ArcSlice}
+use Rattle.std.specs.Arc.{arc_slice_items}
 use Rattle.std.specs.declared.alloc.Global.{Global}
 use Rattle.std.specs.BTreeMap.{get, is_at, Updates}
 use Rattle.std.specs.Ordering.{nat_cmp}
@@ -41,13 +42,13 @@ not_at : (a q : ℕ) → (a ≡ q → ⊥) → is_at (nat_cmp a) q ≡ false
 not_at a q apart = grind (arith, nat_tests)
 
 module _ (f : Features) (bytes : List ℕ) (cluster : ℕ) where
-  pub loaded_kept : (old new : List (Vec ℕ Global)) (number at : ℕ) → KeepsLoaded old new → IsLoaded f bytes cluster old number at → IsLoaded f bytes cluster new number at
+  pub loaded_kept : (old new : List (ArcSlice ℕ Global)) (number at : ℕ) → KeepsLoaded old new → IsLoaded f bytes cluster old number at → IsLoaded f bytes cluster new number at
   loaded_kept old new number at keeps x = record { table = x.table; there = keeps number x.table x.there; whole = x.whole; read = x.read }
 
-  pub loaded_last : (old new : List (Vec ℕ Global)) (table : Vec ℕ Global) (number at : ℕ) → new ≡ old ++ table ∷ [] → number ≡ length old → length table.items ≡ cluster → (IsTrue f.tells_bytes → IsReadAt bytes at table.items) → IsLoaded f bytes cluster new number at
+  pub loaded_last : (old new : List (ArcSlice ℕ Global)) (table : ArcSlice ℕ Global) (number at : ℕ) → new ≡ old ++ table ∷ [] → number ≡ length old → length (arc_slice_items table) ≡ cluster → (IsTrue f.tells_bytes → IsReadAt bytes at (arc_slice_items table)) → IsLoaded f bytes cluster new number at
   loaded_last old new table number at is n whole read = record { table = table; there = rw (is, n) (there_last old table); whole = whole; read = read }
 
-  keeps_by : (old new : List (Vec ℕ Global)) (at : ℕ) (o : Option ℕ) → KeepsLoaded old new → IfSome o (λ number. IsLoaded f bytes cluster old number at) → IfSome o (λ number. IsLoaded f bytes cluster new number at)
+  keeps_by : (old new : List (ArcSlice ℕ Global)) (at : ℕ) (o : Option ℕ) → KeepsLoaded old new → IfSome o (λ number. IsLoaded f bytes cluster old number at) → IfSome o (λ number. IsLoaded f bytes cluster new number at)
   keeps_by old new at None keeps h = tt
   keeps_by old new at (Some number) keeps h = loaded_kept old new number at keeps h
 
@@ -63,23 +64,23 @@ module _ (f : Features) (bytes : List ℕ) (cluster : ℕ) where
   known_at l at number e h = let x : IfSome (get nat_cmp l.numbers at) (λ n. IsLoaded f bytes cluster l.tables.items n at) = h at in rw (← e) at x
 
   -- what is held stays so
-  pub held_kept : (old new : List (Vec ℕ Global)) (says : L2Table) (t : HeldTable) → KeepsLoaded old new → IsHeld f bytes cluster old says t → IsHeld f bytes cluster new says t
+  pub held_kept : (old new : List (ArcSlice ℕ Global)) (says : L2Table) (t : HeldTable) → KeepsLoaded old new → IsHeld f bytes cluster old says t → IsHeld f bytes cluster new says t
   held_kept old new says H.Absent keeps h = h
   held_kept old new says (H.Loaded number) keeps h = (h.0, h.1, loaded_kept old new number (h.0) keeps (h.2))
   held_kept old new says H.Invalid keeps h = h
 
-  held_by : (old new : List (Vec ℕ Global)) (says : L2Table) (o : Option HeldTable) → KeepsLoaded old new → IfSome o (IsHeld f bytes cluster old says) → IfSome o (IsHeld f bytes cluster new says)
+  held_by : (old new : List (ArcSlice ℕ Global)) (says : L2Table) (o : Option HeldTable) → KeepsLoaded old new → IfSome o (IsHeld f bytes cluster old says) → IfSome o (IsHeld f bytes cluster new says)
   held_by old new says None keeps h = tt
   held_by old new says (Some t) keeps h = held_kept old new says t keeps h
 
-  last_is : (says other : L2Table) (l2 : List (Vec ℕ Global)) (o : Option HeldTable) (t : HeldTable) → o ≡ Some t → other ≡ says → IsHeld f bytes cluster l2 says t → IfSome o (IsHeld f bytes cluster l2 other)
+  last_is : (says other : L2Table) (l2 : List (ArcSlice ℕ Global)) (o : Option HeldTable) (t : HeldTable) → o ≡ Some t → other ≡ says → IsHeld f bytes cluster l2 says t → IfSome o (IsHeld f bytes cluster l2 other)
   last_is says other l2 o t e same h = rw (e, same) h
 
-  past_is : (says : L2Table) (l2 : List (Vec ℕ Global)) (o : Option HeldTable) → o ≡ None → IfSome o (IsHeld f bytes cluster l2 says)
+  past_is : (says : L2Table) (l2 : List (ArcSlice ℕ Global)) (o : Option HeldTable) → o ≡ None → IfSome o (IsHeld f bytes cluster l2 says)
   past_is says l2 o e = rw e tt
 
 -- one more L1 entry is held
-pub held_more : (f : Features) (bytes : List ℕ) (cluster : ℕ) (entries : List ℕ) (l1 : List HeldTable) (old new : List (Vec ℕ Global)) (t : HeldTable) → KeepsLoaded old new → AreHeld f bytes cluster entries l1 old
+pub held_more : (f : Features) (bytes : List ℕ) (cluster : ℕ) (entries : List ℕ) (l1 : List HeldTable) (old new : List (ArcSlice ℕ Global)) (t : HeldTable) → KeepsLoaded old new → AreHeld f bytes cluster entries l1 old
     → IsHeld f bytes cluster new (says_entry bytes cluster entries (length l1)) t → AreHeld f bytes cluster entries (l1 ++ t ∷ []) new
 held_more f bytes cluster entries l1 old new t keeps h last i = ⊎_elim
     (λ below.

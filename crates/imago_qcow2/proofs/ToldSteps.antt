@@ -3,7 +3,8 @@
 use Rattle.std.proofs.Common.{◌≡◌, true, ℕ, ◌+◌, ◌*◌, ◌/◌, ◌%◌, ◌<◌, ◌≤◌, ◌⊎◌, ⊎_elim, inl, inr, List, length, Option, Some, None, Ok, Err, refl, sym, ap, ◌∙◌, arith}
 use Rattle.std.specs.Prelude.{slice_index, slice_get, IfSome, IsTrue, IsOk}
 use Rattle.std.specs.Int.{div_ceil}
-use Rattle.std.specs.declared.vec.Vec.{Vec}
+use Rattle.std.specs.declared.sync.ArcSlice.{ArcSlice}
+use Rattle.std.specs.Arc.{arc_slice_items}
 use Rattle.std.specs.declared.alloc.Global.{Global}
 use Rattle.std.proofs.Props.{props}
 use Rattle.std.proofs.Math.Logic.{∥∥₁_elim}
@@ -54,7 +55,7 @@ module _ (f : Features) (bytes : List ℕ) (told : IsTrue f.tells_bytes) where
   wraps_same : (a b n m : ℕ) → a ≡ b → n ≡ m → Wraps f a n → Wraps f b m
   wraps_same a b n m e g w = rw (← e, ← g) w
 
-  held_same : (a b : ℕ) (says other : L2Table) (l2 : List (Vec ℕ Global)) (t : HeldTable) → a ≡ b → says ≡ other → IsHeld f bytes a l2 says t → IsHeld f bytes b l2 other t
+  held_same : (a b : ℕ) (says other : L2Table) (l2 : List (ArcSlice ℕ Global)) (t : HeldTable) → a ≡ b → says ≡ other → IsHeld f bytes a l2 says t → IsHeld f bytes b l2 other t
   held_same a b says other l2 t e g x = rw (← e, ← g) x
 
   module _ (h : Header) (x : IsAccepted f bytes h) where
@@ -136,8 +137,8 @@ module _ (f : Features) (bytes : List ℕ) (told : IsTrue f.tells_bytes) where
       by_slot eight i k (Some (H.Loaded number)) e some =
           let y = told_held i (H.Loaded number) e in
           let index : k % per_table bytes < per_table bytes = mod-lt k (let z : 0 < per_table bytes = omega (arith, eight) in z) in
-          let fits : 8 * (k % per_table bytes) + 8 ≤ length y.2.table.items = omega (arith, index, y.2.whole) in
-          let entry : be64 y.2.table.items (8 * (k % per_table bytes)) ≡ be64 bytes (y.0 + 8 * (k % per_table bytes)) = read64 bytes y.2.table.items y.0 (y.2.read told) (8 * (k % per_table bytes)) fits in
+          let fits : 8 * (k % per_table bytes) + 8 ≤ length (arc_slice_items y.2.table) = omega (arith, index, y.2.whole) in
+          let entry : be64 (arc_slice_items y.2.table) (8 * (k % per_table bytes)) ≡ be64 bytes (y.0 + 8 * (k % per_table bytes)) = read64 bytes (arc_slice_items y.2.table) y.0 (y.2.read told) (8 * (k % per_table bytes)) fits in
           ap (entry_cluster by_bytes k) y.2.there ∙ ap (cluster_in_entry (version_of bytes) (cluster_length bytes)) entry ∙ ap (cluster_by bytes k) (sym (y.1))
 
       some_within : (i : ℕ) → i < length tables.l1.items → slice_get tables.l1.items i ≡ None → ⊥

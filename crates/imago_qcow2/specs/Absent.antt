@@ -2,7 +2,9 @@
 -- SPDX-License-Identifier: MIT
 use Rattle.std.specs.Prelude.{◌≡◌, ℕ, suc, ◌+◌, ◌-◌, ◌*◌, ◌%◌, ◌^◌, ◌<◌, ◌≤◌, List, length}
 use Rattle.std.specs.Prelude.{slice_get, Option, Some, None, IfSome}
+use Rattle.std.specs.declared.sync.ArcSlice.{ArcSlice}
 use Rattle.std.specs.declared.vec.Vec.{Vec}
+use Rattle.std.specs.Arc.{arc_slice_items}
 use Rattle.std.specs.declared.alloc.Global.{Global}
 use Rattle.imago_qcow2.specs.declared.entry.GuestCluster.{GuestCluster}
 use Rattle.imago_qcow2.specs.declared.absent.AbsentRuns.{AbsentRuns}
@@ -16,9 +18,9 @@ AreAbsentEntries table from end = (e : ℕ) → from ≤ e → e < end
     → be64 table (8 * e) % 2 ^ 63 ≡ 0
 
 -- entry e of an L2 table, if it is in memory, says so
-abbrev pub IsAbsentEntry : Option (Vec ℕ Global) → ℕ → Type 0
+abbrev pub IsAbsentEntry : Option (ArcSlice ℕ Global) → ℕ → Type 0
 IsAbsentEntry None e = ⊥
-IsAbsentEntry (Some table) e = be64 table.items (8 * e) % 2 ^ 63 ≡ 0
+IsAbsentEntry (Some table) e = be64 (arc_slice_items table) (8 * e) % 2 ^ 63 ≡ 0
 
 -- where runs of absent entries end, for so many groups of 16 of them, the last group first
 abbrev pub AreEnds : List ℕ → ℕ → List ℕ → Type 0
@@ -26,10 +28,10 @@ AreEnds table groups ends = (i : ℕ) → IfSome (slice_get ends i)
     (λ end. AreAbsentEntries table (16 * (groups - suc i)) end)
 
 -- the same of each L2 table
-abbrev pub AreEndsOf : List (Vec ℕ Global) → List (Vec ℕ Global) → Type 0
+abbrev pub AreEndsOf : List (ArcSlice ℕ Global) → List (Vec ℕ Global) → Type 0
 AreEndsOf l2 ends = (i : ℕ) → IfSome (slice_get ends i)
     (λ of_table. IfSome (slice_get l2 i)
-    (λ table. AreEnds table.items (length of_table.items) of_table.items))
+    (λ table. AreEnds (arc_slice_items table) (length of_table.items) of_table.items))
 
 -- n guest clusters from k on are absent
 abbrev pub AreAbsent : LoadedImage → ℕ → ℕ → Type 0

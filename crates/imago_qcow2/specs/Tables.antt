@@ -4,7 +4,8 @@
 use Rattle.std.specs.Prelude.{◌≡◌, ℕ, ◌*◌, ◌/◌, ◌%◌, List, length, slice_get}
 use Rattle.std.specs.Prelude.{Option, Some, None, IfSome, IsTrue, Ok}
 use Rattle.std.specs.Int.{div_ceil}
-use Rattle.std.specs.declared.vec.Vec.{Vec}
+use Rattle.std.specs.declared.sync.ArcSlice.{ArcSlice}
+use Rattle.std.specs.Arc.{arc_slice_items}
 use Rattle.std.specs.declared.alloc.Global.{Global}
 use Rattle.std.specs.BTreeMap.{get}
 use Rattle.std.specs.Ordering.{nat_cmp}
@@ -31,7 +32,7 @@ pub record LoadedImage : Type 0 where
   pub cluster : ℕ
   pub size : ℕ
   pub l1 : List HeldTable
-  pub l2 : List (Vec ℕ Global)
+  pub l2 : List (ArcSlice ℕ Global)
 
 -- what was loaded, from a header, the length of a cluster, and the tables in memory
 abbrev pub loaded_of : Header → ℕ → Tables → LoadedImage
@@ -45,10 +46,10 @@ loaded_of h cluster tables = record {
 }
 
 -- guest cluster k by its L2 table: what its entry there says
-abbrev pub entry_cluster : LoadedImage → ℕ → Option (Vec ℕ Global) → GuestCluster
+abbrev pub entry_cluster : LoadedImage → ℕ → Option (ArcSlice ℕ Global) → GuestCluster
 entry_cluster loaded k None = GuestCluster.Invalid
 entry_cluster loaded k (Some table) = cluster_in_entry loaded.version loaded.cluster
-    (be64 table.items (8 * (k % (loaded.cluster / 8))))
+    (be64 (arc_slice_items table) (8 * (k % (loaded.cluster / 8))))
 
 -- guest cluster k by what is held of its L1 entry: absent without a table, and invalid with an
 -- invalid one
@@ -104,15 +105,15 @@ pub record AreEntriesRead (f : Features) (bytes : List ℕ) (start count : ℕ) 
 
 -- The L2 table at that offset of the file is loaded under that number: as many bytes as its cluster
 -- has, which are those of the file, where it tells these.
-pub record IsLoaded (f : Features) (bytes : List ℕ) (cluster : ℕ) (l2 : List (Vec ℕ Global))
+pub record IsLoaded (f : Features) (bytes : List ℕ) (cluster : ℕ) (l2 : List (ArcSlice ℕ Global))
     (number at : ℕ) : Type 0 where
-  pub table : Vec ℕ Global
+  pub table : ArcSlice ℕ Global
   pub there : slice_get l2 number ≡ Some table
-  pub whole : length table.items ≡ cluster
-  pub read : IsTrue f.tells_bytes → IsReadAt bytes at table.items
+  pub whole : length (arc_slice_items table) ≡ cluster
+  pub read : IsTrue f.tells_bytes → IsReadAt bytes at (arc_slice_items table)
 
 -- what is held in memory of an L1 entry is what it says
-abbrev pub IsHeld : Features → List ℕ → ℕ → List (Vec ℕ Global) → L2Table → HeldTable → Type 0
+abbrev pub IsHeld : Features → List ℕ → ℕ → List (ArcSlice ℕ Global) → L2Table → HeldTable → Type 0
 IsHeld f bytes cluster l2 says H.Absent = says ≡ L2Table.Absent
 IsHeld f bytes cluster l2 says (H.Loaded number) = (at : ℕ) × (says ≡ L2Table.Stored at)
     × IsLoaded f bytes cluster l2 number at
@@ -123,13 +124,13 @@ abbrev pub says_entry : List ℕ → ℕ → List ℕ → ℕ → L2Table
 says_entry bytes cluster entries i = table_in_entry (length bytes) cluster (be64 entries (8 * i))
 
 -- the first L1 entries are held, in order
-abbrev pub AreHeld : Features → List ℕ → ℕ → List ℕ → List HeldTable → List (Vec ℕ Global) → Type 0
+abbrev pub AreHeld : Features → List ℕ → ℕ → List ℕ → List HeldTable → List (ArcSlice ℕ Global) → Type 0
 AreHeld f bytes cluster entries l1 l2 = (i : ℕ)
     → IfSome (slice_get l1 i) (IsHeld f bytes cluster l2 (says_entry bytes cluster entries i))
 
 -- The tables in memory are those of the file whose L1 table has so many entries from the start on.
 pub record AreTables (f : Features) (bytes : List ℕ) (start count cluster : ℕ) (l1 : List HeldTable)
-    (l2 : List (Vec ℕ Global)) : Type 0 where
+    (l2 : List (ArcSlice ℕ Global)) : Type 0 where
   pub entries : List ℕ
   pub are_read : AreEntriesRead f bytes start count entries
   pub held : AreHeld f bytes cluster entries l1 l2
@@ -147,6 +148,6 @@ AreKnown f bytes cluster l = (at : ℕ) → IfSome (get nat_cmp l.numbers at)
     (λ number. IsLoaded f bytes cluster l.tables.items number at)
 
 -- what was loaded before is so under the same number
-abbrev pub KeepsLoaded : List (Vec ℕ Global) → List (Vec ℕ Global) → Type 0
-KeepsLoaded old new = (number : ℕ) (table : Vec ℕ Global) → slice_get old number ≡ Some table
+abbrev pub KeepsLoaded : List (ArcSlice ℕ Global) → List (ArcSlice ℕ Global) → Type 0
+KeepsLoaded old new = (number : ℕ) (table : ArcSlice ℕ Global) → slice_get old number ≡ Some table
     → slice_get new number ≡ Some table

@@ -12,6 +12,7 @@ use crate::header::Header;
 use crate::number::number64;
 use crate::table::{HeldTable, Tables};
 use std::alloc::{AllocError, Global};
+use std::sync::ArcSlice;
 
 /// How many entries of an L2 table share a number of the index.
 const GROUP: usize = 16;
@@ -69,7 +70,7 @@ fn ends_of(alloc: Global, table: &[u8]) -> Result<Vec<u32>, AllocError>
 }
 
 /// The same of each L2 table.
-fn all_ends(alloc: Global, l2: &[Vec<u8>]) -> Result<Vec<Vec<u32>>, AllocError>
+fn all_ends(alloc: Global, l2: &[ArcSlice<u8>]) -> Result<Vec<Vec<u32>>, AllocError>
     ensures { IfOk result (λ ends. AreEndsOf l2.now ends.items) }
 {
     let mut ends = Vec::new(alloc);
@@ -82,7 +83,7 @@ fn all_ends(alloc: Global, l2: &[Vec<u8>]) -> Result<Vec<Vec<u32>>, AllocError>
 
 /// An end up to which all entries of an L2 table from that one on are absent, as far as the index
 /// knows; it is no further than the entry where it knows none.
-fn end_in(l2: &[Vec<u8>], ends: &[Vec<u32>], number: usize, index: u64) -> u64
+fn end_in(l2: &[ArcSlice<u8>], ends: &[Vec<u32>], number: usize, index: u64) -> u64
     requires { AreEndsOf l2.now ends.now }
     ensures { (e : ℕ) → index ≤ e → e < result → IsAbsentEntry (slice_get l2.now number) e }
 {

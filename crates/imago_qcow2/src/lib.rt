@@ -2,7 +2,8 @@
 //! The driver of qcow2 images of versions 2 and 3, read-only.
 //!
 //! [`qcow2`] has the driver, [`header`] what a file's header says, [`fault`] why one is refused,
-//! [`entry`] what the entries of its tables say, and [`number`] the numbers that these are made of.
+//! [`entry`] what the entries of its tables say, [`number`] the numbers that these are made of, and
+//! [`memory`] which tables needn't be read.
 #![tactic(auto)]
 
 mod absent;
@@ -15,6 +16,7 @@ pub mod header;
 pub mod laws;
 pub mod layout;
 mod map;
+pub mod memory;
 pub mod number;
 pub mod qcow2;
 mod qcow2_builder;

@@ -38,6 +38,8 @@ use crate::entry::{GuestCluster, cluster_in};
 pub use crate::fault::OpenFault;
 use crate::header::{self, Compression, HEAD_LENGTH, Header, MAGIC};
 use crate::map::{goes_on, mapping_of};
+use crate::memory::NothingShared;
+pub use crate::memory::TableMemory;
 use crate::number::number32;
 pub use crate::qcow2_builder::Qcow2OpenBuilder;
 use crate::table::{HeldTable, Tables, entry_at, read_bytes, read_tables};
@@ -55,8 +57,8 @@ use std::fmt::{self, Display, Formatter, Write};
 /// The disk of a qcow2 file. It can't be written to.
 ///
 /// It follows from the bytes of the file alone, and from the layer below where a guest cluster has
-/// no data. The header and the tables are read once, when the image is opened; each L2 table is
-/// kept once, also where several L1 entries name it.
+/// no data. The header and the tables are read once, or shared, when the image is opened; each L2
+/// table is kept once, also where several L1 entries name it.
 ///
 /// Compressed clusters are mapped as special. One that is deflated is decoded whenever a byte of it
 /// is read: with memory for its stream, of two clusters at most, and for a cluster unless all of it
@@ -132,7 +134,22 @@ impl<S: Storage> Qcow2<S> {
         if writable {
             return Err(Error::Unsupported);
         }
-        Qcow2::open_read_only(alloc, storage, true)
+        Qcow2::open_read_only(alloc, storage, &NothingShared, true)
+    }
+
+    /// Opens the image as [`open_image`](Self::open_image) does, for reading only, and shares the
+    /// L2 tables that `memory` has: they aren't read, and no memory is taken for their bytes.
+    pub fn open_sharing<M: TableMemory<S>>(
+        alloc: Global,
+        storage: S,
+        memory: &M,
+    ) -> Result<Self, Error>
+        ensures opened { IfOk result
+            (λ d. (storage_in d ≡ «storage»)
+            × IsOpened (S.features storage) (S.bytes storage) (header_in d)) }
+        ensures refused { IfErr result (IsRefusedOpening (S.features storage) (S.bytes storage)) }
+    {
+        Qcow2::open_read_only(alloc, storage, memory, true)
     }
 
     /// Opens the image whose file the storage is, for reading only, as
@@ -140,9 +157,9 @@ impl<S: Storage> Qcow2<S> {
     /// entry of the L1 table that the disk needs, and a cluster for each L2 table that these name,
     /// counted once.
     ///
-    /// [`OpenFault::TablesTooLarge`] is an image whose tables have more. Before memory is taken for
-    /// a table, and before it is read, the limit is looked at. [`OpenFault::Driver`] is what
-    /// [`open_image`](Self::open_image) would be refused for.
+    /// [`OpenFault::TablesTooLarge`] is an image whose tables have more. They are counted before
+    /// the first L2 table is read, and before memory is taken for its bytes. [`OpenFault::Driver`]
+    /// is what [`open_image`](Self::open_image) would be refused for.
     pub fn open_within(alloc: Global, storage: S, most_tables: u64) -> Result<Self, OpenFault>
         ensures opened { IfOk result
             (λ d. (storage_in d ≡ «storage»)
@@ -152,14 +169,15 @@ impl<S: Storage> Qcow2<S> {
             (by_fault (IsRefusedOpening (S.features storage) (S.bytes storage))
             (TablesNeedMore (S.features storage) (S.bytes storage) (Some most_tables))) }
     {
-        Qcow2::open_limited(alloc, storage, true, Some(most_tables))
+        Qcow2::open_limited(alloc, storage, &NothingShared, true, Some(most_tables))
     }
 
     /// Opens the image. One that names a backing file is unsupported, unless its caller lays that
     /// below.
-    pub(crate) fn open_read_only(
+    pub(crate) fn open_read_only<M: TableMemory<S>>(
         alloc: Global,
         storage: S,
+        memory: &M,
         backing_laid: bool,
     ) -> Result<Self, Error>
         ensures opened { IfOk result
@@ -173,7 +191,7 @@ impl<S: Storage> Qcow2<S> {
         ensures alone { backing_laid ≡ false
             → IfErr result (IsRefusedAlone (S.features storage) (S.bytes storage)) }
     {
-        match Qcow2::open_limited(alloc, storage, backing_laid, None) {
+        match Qcow2::open_limited(alloc, storage, memory, backing_laid, None) {
             Ok(image) => Ok(image),
             Err(OpenFault::Driver(error)) => Err(error),
             Err(OpenFault::TablesTooLarge) => unreachable!(),
@@ -182,9 +200,10 @@ impl<S: Storage> Qcow2<S> {
 
     /// Opens the image, if its tables have at most so many bytes, where that is limited. One that
     /// names a backing file is unsupported, unless its caller lays that below.
-    fn open_limited(
+    fn open_limited<M: TableMemory<S>>(
         alloc: Global,
         storage: S,
+        memory: &M,
         backing_laid: bool,
         most_tables: Option<u64>,
     ) -> Result<Self, OpenFault>
@@ -212,6 +231,7 @@ impl<S: Storage> Qcow2<S> {
         let count = header.size.div_ceil(cluster.length / 8 * cluster.length);
         let tables = read_tables(
             &storage,
+            memory,
             alloc,
             header.l1_start,
             count,

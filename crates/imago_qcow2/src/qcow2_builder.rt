@@ -7,6 +7,7 @@ ghost use Rattle.imago_drivers.specs.declared.format.Format.TheVariants as Image
 ghost use Rattle.imago_drivers.specs.Builder.{HandedIn, AtPath, unset, IsImageOf};
 ghost use Rattle.imago_qcow2.specs.Qcow2Builder.{IsQcow2Opening, IsQcow2OpeningBy};
 
+use crate::memory::NothingShared;
 use crate::qcow2::Qcow2;
 use imago_drivers::builder::{FormatDriverBuilder, FormatDriverBuilderBase};
 use imago_drivers::drivers::{Format, FormatDriverInstance};
@@ -75,7 +76,7 @@ impl<S: Storage> Qcow2OpenBuilder<S> {
             return Err(Error::Unsupported);
         }
         let storage = base.open_image(alloc, gate)?;
-        Qcow2::open_read_only(alloc, storage, backing_laid)
+        Qcow2::open_read_only(alloc, storage, &NothingShared, backing_laid)
     }
 }
 

@@ -3,6 +3,7 @@
 ghost use Rattle.std.specs.Prelude.{◌≡◌, ℕ, suc, ◌+◌, ◌*◌, ◌/◌, ◌^◌, ◌<◌, ◌≤◌, length, slice_get};
 ghost use Rattle.std.specs.Prelude.{List, [], Option, Some, IfOk, IfErr, IfSome, IsTrue, OnOk};
 ghost use Rattle.std.specs.BTreeMap.{Updates};
+ghost use Rattle.std.specs.Arc.{arc_slice_items};
 ghost use Rattle.std.specs.Ordering.{nat_cmp};
 ghost use Rattle.imago_storage.specs.declared.error.Error.TheVariants.{Memory};
 ghost use Rattle.imago_storage.specs.Bytes.{IsReadAt};
@@ -17,12 +18,14 @@ ghost use Rattle.imago_qcow2.specs.Opening.{read_reasons, entries_reasons, table
 
 use crate::entry::{L2Table, table_in};
 use crate::fault::OpenFault;
+use crate::memory::TableMemory;
 use crate::number::number64;
 use imago_storage::error::Error;
 use imago_storage::ext::StorageExt;
 use imago_storage::storage::Storage;
-use std::alloc::Global;
+use std::alloc::{AllocError, Global};
 use std::collections::BTreeMap;
+use std::sync::ArcSlice;
 
 /// What is in memory of an L1 entry.
 #[derive(Clone, Copy)]
@@ -41,13 +44,13 @@ pub(crate) struct Tables {
     /// What is held of each L1 entry of the disk.
     pub(crate) l1: Vec<HeldTable>,
     /// The bytes of each L2 table, by its number.
-    pub(crate) l2: Vec<Vec<u8>>,
+    pub(crate) l2: Vec<ArcSlice<u8>>,
 }
 
-/// The L2 tables that are loaded, each once.
+/// The L2 tables that are loaded, each once, or that are counted, without their bytes.
 #[derive(Drop)]
 struct Loaded {
-    tables: Vec<Vec<u8>>,
+    tables: Vec<ArcSlice<u8>>,
     /// The number of each by its offset in the file.
     numbers: BTreeMap<u64, usize>,
     /// How many bytes more tables may have, where that is limited.
@@ -85,9 +88,30 @@ fn room_behind(room: Option<u64>, taken: u64) -> Result<Option<u64>, OpenFault>
     Ok(Some(most - taken))
 }
 
-/// Reads the L2 table at that offset of the file, which isn't loaded yet, and answers its number.
-fn add<S: Storage>(
+/// The L2 table at that offset of the file: shared where it is in memory already, or else read.
+fn table_at<S: Storage, M: TableMemory<S>>(
     storage: &S,
+    memory: &M,
+    alloc: Global,
+    at: u64,
+    cluster: u64,
+) -> Result<ArcSlice<u8>, Error>
+    ensures whole { IfOk result (λ v. length (arc_slice_items v) ≡ cluster) }
+    ensures read { IsTrue (S.features storage.now).tells_bytes
+        → IfOk result (λ v. IsReadAt (S.bytes storage.now) at (arc_slice_items v)) }
+    ensures refusals { IfErr result (allowed (read_reasons (S.features storage.now) at cluster)) }
+{
+    if let Some(table) = memory.shared(storage, at, cluster) {
+        return Ok(table);
+    }
+    let table = read_bytes(storage, alloc, at, cluster)?;
+    Ok(ArcSlice::from_vec(table)?)
+}
+
+/// Loads the L2 table at that offset of the file, which isn't loaded yet, and answers its number.
+fn add<S: Storage, M: TableMemory<S>>(
+    storage: &S,
+    memory: &M,
     alloc: Global,
     at: u64,
     cluster: u64,
@@ -107,16 +131,17 @@ fn add<S: Storage>(
     ensures refusals { IfErr result (allowed (read_reasons (S.features storage.now) at cluster)) }
 {
     let number = loaded.tables.len();
-    let table = read_bytes(storage, alloc, at, cluster)?;
+    let table = table_at(storage, memory, alloc, at, cluster)?;
     loaded.tables.push(table)?;
     loaded.numbers.insert(at, number)?;
     Ok(number)
 }
 
-/// The number of the L2 table at that offset of the file. It is read, unless another L1 entry named
+/// The number of the L2 table at that offset of the file. It is loaded, unless another L1 entry named
 /// it before; and it isn't, nor is memory taken for it, where the limit leaves no room.
-fn load<S: Storage>(
+fn load<S: Storage, M: TableMemory<S>>(
     storage: &S,
+    memory: &M,
     alloc: Global,
     at: u64,
     cluster: u64,
@@ -142,14 +167,15 @@ fn load<S: Storage>(
         return Ok(*number);
     }
     let room = room_behind(loaded.room, cluster)?;
-    let number = add(storage, alloc, at, cluster, loaded)?;
+    let number = add(storage, memory, alloc, at, cluster, loaded)?;
     loaded.room = room;
     Ok(number)
 }
 
 /// What is held of an L1 entry, whose L2 table is loaded if it has one.
-fn hold<S: Storage>(
+fn hold<S: Storage, M: TableMemory<S>>(
     storage: &S,
+    memory: &M,
     alloc: Global,
     says: L2Table,
     cluster: u64,
@@ -175,15 +201,19 @@ fn hold<S: Storage>(
 {
     match says {
         L2Table::Absent => Ok(HeldTable::Absent),
-        L2Table::Stored(at) => Ok(HeldTable::Loaded(load(storage, alloc, at, cluster, loaded)?)),
+        L2Table::Stored(at) => {
+            let number = load(storage, memory, alloc, at, cluster, loaded)?;
+            Ok(HeldTable::Loaded(number))
+        }
         L2Table::Invalid => Ok(HeldTable::Invalid),
     }
 }
 
 /// What is held of the L1 entries that stand in these bytes, whose L2 tables are loaded. They were
 /// counted before, and the limit leaves room for all of them.
-fn hold_all<S: Storage>(
+fn hold_all<S: Storage, M: TableMemory<S>>(
     storage: &S,
+    memory: &M,
     alloc: Global,
     entries: &[u8],
     cluster: u64,
@@ -216,9 +246,17 @@ fn hold_all<S: Storage>(
     let mut l1 = Vec::new(alloc);
     for i in 0..entries.len() / 8 {
         let says = table_in(file, cluster, number64(entries, 8 * i));
-        l1.push(hold(storage, alloc, says, cluster, loaded)?)?;
+        l1.push(hold(storage, memory, alloc, says, cluster, loaded)?)?;
     }
     Ok(l1)
+}
+
+/// A table without bytes, for one that is only counted. It is the same one for all of them.
+fn without_bytes(alloc: Global, counted: &Loaded) -> Result<ArcSlice<u8>, AllocError> {
+    match counted.tables.first() {
+        Some(table) => table.clone(),
+        None => ArcSlice::from_vec(Vec::new(alloc)),
+    }
 }
 
 /// Counts the L2 table at that offset of the file, unless another L1 entry named it before. It isn't
@@ -237,7 +275,8 @@ fn count_one(alloc: Global, at: u64, cluster: u64, counted: &mut Loaded) -> Resu
     }
     let room = room_behind(counted.room, cluster)?;
     let number = counted.tables.len();
-    counted.tables.push(Vec::new(alloc))?;
+    let empty = without_bytes(alloc, counted)?;
+    counted.tables.push(empty)?;
     counted.numbers.insert(at, number)?;
     counted.room = room;
     Ok(())
@@ -299,11 +338,12 @@ fn count_all(
 }
 
 /// Reads the L1 table of a file of that length, of so many entries from `start` on, and the L2
-/// tables that it names, each of them once. All of them have at most so many bytes, where that is
-/// limited: they are counted first, and where they have more, none of them is read, nor is memory
-/// taken for it.
-pub(crate) fn read_tables<S: Storage>(
+/// tables that it names, each of them once, or shares those that are in memory already. All of them
+/// have at most so many bytes, where that is limited: they are counted first, and where they have
+/// more, none of them is read, nor is memory taken for it.
+pub(crate) fn read_tables<S: Storage, M: TableMemory<S>>(
     storage: &S,
+    memory: &M,
     alloc: Global,
     start: u64,
     count: u64,
@@ -334,7 +374,7 @@ pub(crate) fn read_tables<S: Storage>(
         numbers: BTreeMap::new(alloc),
         room,
     };
-    let l1 = hold_all(storage, alloc, &entries, cluster, file, &mut loaded)?;
+    let l1 = hold_all(storage, memory, alloc, &entries, cluster, file, &mut loaded)?;
     let Loaded {
         tables,
         numbers: _,
@@ -344,11 +384,12 @@ pub(crate) fn read_tables<S: Storage>(
 }
 
 /// The entry at that index of the L2 table that is loaded under that number.
-pub(crate) fn entry_at(l2: &[Vec<u8>], number: usize, index: u64) -> u64
+pub(crate) fn entry_at(l2: &[ArcSlice<u8>], number: usize, index: u64) -> u64
     requires loaded { number < length l2.now }
     requires within { IfSome (slice_get l2.now number)
-        (λ table. 8 * index + 8 ≤ length table.items) }
-    ensures { IfSome (slice_get l2.now number) (λ table. result ≡ be64 table.items (8 * index)) }
+        (λ table. 8 * index + 8 ≤ length (arc_slice_items table)) }
+    ensures { IfSome (slice_get l2.now number)
+        (λ table. result ≡ be64 (arc_slice_items table) (8 * index)) }
 {
     number64(&l2[number], (8 * index) as usize)
 }

@@ -29,7 +29,7 @@ use imago_drivers::builder::FormatDriverBuilder;
 use imago_drivers::drivers::{Format, FormatDriverInstance};
 use imago_drivers::gate::ImplicitOpenGate;
 use imago_drivers::raw::Raw;
-use imago_loaded::loaded::LoadedFile;
+use imago_loaded::loaded::{LoadedFile, WholeBlocks};
 use imago_qcow2::header::HEAD_LENGTH;
 use imago_qcow2::laws::same_tables_stand_alike;
 use imago_qcow2::qcow2::Qcow2;
@@ -278,7 +278,7 @@ fn load_qcow2(
         }));
     }
     same_tables_stand_alike();
-    let image = Qcow2::open_image(alloc, file, false)?;
+    let image = Qcow2::open_sharing(alloc, file, &WholeBlocks)?;
     Ok(Found::Layer(AnyDriver::Qcow2(image), Vec::new(alloc)))
 }
 

@@ -1,6 +1,8 @@
 // SPDX-License-Identifier: MIT
 //! Sessions that are given the blocks of files in memory, beside images over the same files.
 
+ghost use Rattle.std.specs.Prelude.{◌<◌};
+
 use imago_access::access::FormatAccess;
 use imago_access::mapping::Mapping;
 use imago_drivers::drivers::Format;
@@ -70,6 +72,24 @@ static PACKED: File = File {
         (1541, b"KLJNIMK\xcfH\x1c\xa5G$\r\0304261537\x18\xa5G$\r\0"),
         (1584, &[7]),
         (2037, b"K\xcdK\xd1K\x1d\xc5#\x16\x03\x00"),
+    ],
+};
+
+/// A qcow2 image in clusters of 64 KiB, which are as long as the blocks that are asked for. Of its
+/// disk's three clusters the second one has data.
+static WIDE: File = File {
+    name: b"",
+    length: 262144,
+    parts: &[
+        (0, b"QFI\xfb\0\0\0\x02"),
+        (23, &[16]),
+        (29, &[3]),
+        (39, &[1]),
+        (45, &[1]),
+        // The L1 entry: the L2 table is at 131072. Its second entry: the cluster is at 196608.
+        (65541, &[2]),
+        (131085, &[3]),
+        (196608, b"wide"),
     ],
 };
 
@@ -196,8 +216,8 @@ fn opened(rt: &impl Abort, alloc: Global, files: &[&File]) -> Result<Session, Er
     };
     let top = numbered(files, 0)?;
     let mut session = Session::new(alloc, accepted, top.length as u64, None)?;
-    // each file has one block, and is asked for once
-    for _ in 0..2 * files.len() {
+    // of each file at most three blocks are asked for, and the file itself
+    for _ in 0..4 * files.len() {
         if !answer(rt, alloc, &mut session, files)? {
             return Ok(session);
         }
@@ -263,21 +283,34 @@ fn image_of(
     Ok(FormatAccess::with_backing(upper, below))
 }
 
-/// At each of these offsets a session tells what the image's own mapping is, and what is unpacked is
-/// what the image reads.
-fn check_mapping(rt: &impl Abort, alloc: Global, offset: u64) -> Result<(), Error> {
-    let files = [&TOP, &PACKED];
-    let session = opened(rt, alloc, &files)?;
-    let image = image_of(alloc, &TOP, &PACKED)?;
+/// The image over one file in memory.
+fn lone_image(alloc: Global, file: &File) -> Result<FormatAccess<Qcow2<MemStorage>>, Error> {
+    let storage = MemStorage::new(bytes_of(alloc, file)?);
+    Ok(FormatAccess::new(Qcow2::open_image(alloc, storage, false)?))
+}
+
+/// At that offset the session of these files tells what the image's own mapping is, as far as its
+/// cluster goes, and what is unpacked is what the image reads.
+fn check_mapping(
+    rt: &impl Abort,
+    alloc: Global,
+    files: &[&File],
+    image: &FormatAccess<Qcow2<MemStorage>>,
+    cluster: u64,
+    offset: u64,
+) -> Result<(), Error>
+    requires { 0 < cluster }
+{
+    let session = opened(rt, alloc, files)?;
     assert_eq!(rt; session.size(), Some(image.size()));
-    let most = 512 - offset % 512;
+    let most = cluster - offset % cluster;
     let mapped = session.map(offset, most)?;
     let (mapping, count) = image.get_mapping(offset, most)?;
     assert!(rt; is_so(mapping, count, mapped), "{offset}");
     if let Mapped::Compressed(part) = mapped {
         let mut read = vec![in alloc; 0u8; part.count as usize]?;
         image.read(alloc, &mut read, offset)?;
-        let bytes = unpacked(alloc, &files, part)?;
+        let bytes = unpacked(alloc, files, part)?;
         assert_eq!(rt; bytes.as_slice(), read.as_slice());
     }
     Ok(())
@@ -285,8 +318,18 @@ fn check_mapping(rt: &impl Abort, alloc: Global, offset: u64) -> Result<(), Erro
 
 #[test]
 fn sessions_tell_the_mappings_of_images(rt: HostRuntime) -> Result<(), Fail> {
+    let image = image_of(rt.alloc(), &TOP, &PACKED)?;
     for offset in [0, 5, 511, 512, 517, 1023, 1024, 1535] {
-        check_mapping(&rt, rt.alloc(), offset)?;
+        check_mapping(&rt, rt.alloc(), &[&TOP, &PACKED], &image, 512, offset)?;
+    }
+    Ok(())
+}
+
+#[test]
+fn images_of_wide_clusters_tell_the_same_mappings(rt: HostRuntime) -> Result<(), Fail> {
+    let image = lone_image(rt.alloc(), &WIDE)?;
+    for offset in [0, 65535, 65536, 131071, 131072, 196607] {
+        check_mapping(&rt, rt.alloc(), &[&WIDE], &image, 65536, offset)?;
     }
     Ok(())
 }

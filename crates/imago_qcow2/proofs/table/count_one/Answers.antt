@@ -19,5 +19,5 @@ pub returns-clause-account : goal.returns-clause-account
 returns-clause-account c = λ offsets limit a.
     let none : get nat_cmp c.args.counted.now.numbers c.args.at ≡ None = search rules in
     let items = c.in_ok-push.ensures.items in
-    let more : length c.push.new.self.items ≡ suc (length c.args.counted.now.tables.items) = omega (arith, ap length items, length-append c.args.counted.now.tables.items (c.new.result ∷ [])) in
+    let more : length c.push.new.self.items ≡ suc (length c.args.counted.now.tables.items) = omega (arith, ap length items, length-append c.args.counted.now.tables.items (c.in_ok-empty.empty ∷ [])) in
     account_more offsets limit c.args.cluster c.args.at c.args.counted.now (record { tables = c.push.new.self; numbers = c.insert.new.self; room = c.in_ok-room.room }) c.len-number.result none a more c.in_ok-insert.ensures.updates c.in_ok-room.ensures.left

@@ -13,7 +13,7 @@ use Rattle.imago_session.specs.Known.{AreTablesOf, AreKnownOf}
 use Rattle.imago_session.specs.Files.{IsFormatBy}
 use Rattle.imago_session.specs.Steps.{IfReady}
 use Rattle.imago_session.proofs.KnownSteps.{front_of}
-use Rattle.std.proofs.Common.{◌≡◌, ◌∙◌, inl, inr, ⊎_elim, refl, length, arith}
+use Rattle.std.proofs.Common.{◌≡◌, ◌∙◌, inl, inr, ⊎_elim, length, arith}
 use Rattle.std.proofs.lemmas.Result.{err_from_is_err_and}
 use Rattle.imago_loaded.proofs.LoadedSteps.{loaded_length}
 use Rattle.imago_session.proofs.RefusalSteps.{qcow2_refused}
@@ -37,7 +37,7 @@ returns-in_err-image-clause-refused c =
     ⊎_elim
     (λ memory. inl memory)
     (λ fault. inr (inl (sym (c.same_tables_stand_alike.ensures.header bytes (loaded_bytes file) same) ∙ fault)))
-    (qcow2_refused (loaded_bytes file) (omega (arith, long, c.length-length.ensures, c.length-length.type_inv)) c.in_err-image.field-0.0 (c.in_err-image.ensures.refused refl)))
+    (qcow2_refused (loaded_bytes file) (omega (arith, long, c.length-length.ensures, c.length-length.type_inv)) c.in_err-image.field-0.0 c.in_err-image.ensures.refused))
 
 pub returns-clause-agrees : goal.returns-clause-agrees
 returns-clause-agrees c = λ f part known says is.
