@@ -80,9 +80,8 @@ fn tell_chain<H: Host, W: Write, E: Write>(
     output: &mut W,
     warnings: &mut E,
 ) -> Result<(), Failure> {
-    let alloc = host.alloc();
-    let image = String::from_str(alloc, &first.path)?;
-    let mut above = Above::new(alloc);
+    let image = String::from_str(host.alloc(), &first.path)?;
+    let mut above = Above::new(host.alloc());
     let mut step = first;
     let (mut start, between, end) = if json {
         ("[\n", ",\n", "\n]\n")
@@ -90,10 +89,7 @@ fn tell_chain<H: Host, W: Write, E: Write>(
         ("", "\n", "")
     };
     for _depth in 0..LONGEST_CHAIN {
-        let entered = above.enter(alloc, &step.path, &step.file);
-        Failure::or_opened(alloc, &image, entered)?;
-        let reported = report_on(host, &step.path, &step.file, step.how);
-        let report = Failure::or_needed(alloc, &image, reported)?;
+        let report = report_on_step(host, &image, &step, &mut above)?;
         warn(&report, warnings);
         write!(output, "{start}").map_err(Failure::Output)?;
         tell(host, &step.path, &report, json, output).map_err(Failure::Output)?;
@@ -101,10 +97,25 @@ fn tell_chain<H: Host, W: Write, E: Write>(
             return write!(output, "{end}").map_err(Failure::Output);
         };
         let below = step_below(host, &step.path, step.how, said);
-        step = Failure::or_opened(alloc, &image, below)?;
+        step = Failure::or_opened(host.alloc(), &image, below)?;
         start = between;
     }
-    Failure::or_opened(alloc, &image, above.too_many_below(alloc, &step.path))
+    let refused = above.too_many_below(host.alloc(), &step.path);
+    Failure::or_opened(host.alloc(), &image, refused)
+}
+
+/// Looks at the next image of the chain that begins at the path `image`, and refuses one that is
+/// above itself.
+fn report_on_step<H: Host>(
+    host: &H,
+    image: &str,
+    step: &Step<PathStorage<'_, H>>,
+    above: &mut Above,
+) -> Result<Report, Failure> {
+    let entered = above.enter(host.alloc(), &step.path, &step.file);
+    Failure::or_opened(host.alloc(), image, entered)?;
+    let reported = report_on(host, &step.path, &step.file, step.how);
+    Failure::or_needed(host.alloc(), image, reported)
 }
 
 impl Report {

@@ -13,10 +13,11 @@ use std::io;
 
 /// A driver whose storages are files that were reached by their paths.
 pub trait FileDriver: FormatDriverInstance {
-    /// The path of the file that a storage is, and what the file was when it was looked at.
+    /// The path of the file that the storage of that number is, and what the file was when it was
+    /// looked at.
     fn file(&self, storage: usize) -> Option<(&str, FileStatus)>;
 
-    /// What the host answered to the last read of that file which it refused, if it refused one.
+    /// What the host answered to the last call that failed on that storage's file, if one did.
     fn refusal(&self, storage: usize) -> Option<io::Error>;
 
     /// The driver of a qcow2 image, if it is one.

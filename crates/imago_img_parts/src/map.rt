@@ -105,7 +105,7 @@ fn print_image<H: Host, D: FormatDriverInstance, W: Write>(
 }
 
 /// Prints the runs of the disk of an image whose layers have those files. An error is the image's
-/// refusal, and one inside an answer is the output's.
+/// refusal, or that of memory, and one inside an answer is the output's.
 fn print_disk<H: Host, D: FormatDriverInstance, W: Write>(
     host: &H,
     image: &FormatAccess<D>,

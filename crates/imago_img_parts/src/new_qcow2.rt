@@ -126,7 +126,8 @@ pub(crate) fn layout_for<H: Host>(
     ensures { IfOk result (λ l. (size : ℕ) × IsLayoutOf new.format size l
         × HasNoNames l) }
 {
-    let mut buf = vec![in alloc; 0u8; CHUNK]?;
+    let count = if new.all { 0 } else { CHUNK };
+    let mut buf = vec![in alloc; 0u8; count]?;
     match layout_in(alloc, image, new, &mut buf) {
         Ok(layout) => Ok(layout),
         Err(cause) => Err(not_written(alloc, from, to, image, cause)),

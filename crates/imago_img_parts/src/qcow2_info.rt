@@ -28,7 +28,7 @@ use std::io::{self, Write};
 /// What a qcow2 file is.
 #[derive(Drop)]
 pub struct Qcow2Report {
-    /// What its header says, but for what isn't supported.
+    /// What its header says, but for encryption and features that aren't supported.
     pub header: Header,
     unsupported: Unsupported,
     /// How many bits a reference count has.
@@ -96,7 +96,7 @@ impl Qcow2Report {
 /// A header that was read.
 #[derive(Clone, Copy)]
 struct Head {
-    /// Its bytes, without what isn't supported.
+    /// Its bytes, without encryption and features that aren't supported.
     bytes: [u8; HEAD_LENGTH],
     header: Header,
     unsupported: Unsupported,
@@ -110,7 +110,8 @@ pub fn put(bytes: &mut [u8], at: usize, source: &[u8]) {
     bytes[at..at + source.len()].copy_from_slice(source);
 }
 
-/// What the first bytes of a file of that length say. What isn't supported is taken out of them.
+/// What the first bytes of a file of that length say. Encryption and features that aren't supported
+/// are taken out of them; an L1 table that is too long stays.
 fn head_of(mut bytes: [u8; HEAD_LENGTH], file: u64) -> Result<Head, HeaderFault> {
     let mut unsupported = Unsupported::NONE;
     for _step in 0..2u32 {
@@ -128,9 +129,9 @@ fn head_of(mut bytes: [u8; HEAD_LENGTH], file: u64) -> Result<Head, HeaderFault>
         }
     }
     let header = header::read(&bytes, file)?;
-    let taken = l1_length(&bytes);
-    if taken > LONGEST_L1 {
-        unsupported.long_l1 = Some(taken);
+    let length = l1_length(&bytes);
+    if length > LONGEST_L1 {
+        unsupported.long_l1 = Some(length);
     }
     Ok(Head {
         bytes,
@@ -418,38 +419,45 @@ fn print_unsupported_json<W: Write>(
     unsupported: Unsupported,
     output: &mut W,
 ) -> io::Result<()> {
-    let mut start = ", \"unsupported\": [";
-    let mut end = "";
+    let mut is_first = true;
     if unsupported.encryption {
-        write!(output, "{start}")?;
-        print_reason(alloc, HeaderFault::Encryption, output)?;
-        start = ", ";
-        end = "]";
+        print_reason(alloc, &mut is_first, HeaderFault::Encryption, output)?;
     }
     for bit in 0..64u32 {
         if unsupported.has(bit) {
-            write!(output, "{start}")?;
-            print_reason(alloc, HeaderFault::Features(1 << bit), output)?;
-            start = ", ";
-            end = "]";
+            print_reason(
+                alloc,
+                &mut is_first,
+                HeaderFault::Features(1 << bit),
+                output,
+            )?;
         }
     }
-    if let Some(taken) = unsupported.long_l1 {
-        write!(output, "{start}")?;
-        print_reason(alloc, Reason::L1TooLong(taken), output)?;
-        end = "]";
+    if let Some(length) = unsupported.long_l1 {
+        print_reason(alloc, &mut is_first, Reason::L1TooLong(length), output)?;
     }
-    write!(output, "{end}")
+    if !is_first {
+        write!(output, "]")?;
+    }
+    Ok(())
 }
 
-/// Prints a reason as a JSON string.
+/// Prints a reason as a JSON string: behind the member's name and `[` if it is the first one, else
+/// behind a comma.
 fn print_reason<R: Display + Drop, W: Write>(
     alloc: Global,
+    is_first: &mut bool,
     reason: R,
     output: &mut W,
 ) -> io::Result<()> {
+    let start = if *is_first {
+        ", \"unsupported\": ["
+    } else {
+        ", "
+    };
     let text = format!(in alloc; "{reason}")?;
-    write!(output, "{}", quoted(alloc, &text)?)
+    *is_first = false;
+    write!(output, "{start}{}", quoted(alloc, &text)?)
 }
 
 /// Prints what is said of the file below as members of a JSON object.

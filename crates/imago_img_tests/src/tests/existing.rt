@@ -63,8 +63,9 @@ fn a_disk_is_written_into_what_can_hold_it(rt: HostRuntime) {
     }
 }
 
-/// A command line over an image of 1 MiB and 4 bytes, how many times something may be put into a
-/// file, the status, and how many bytes of the file are those of the image then.
+/// A command line over an image of 256 KiB, which are read at a time, and 4 bytes; how many times
+/// something may be put into a file, the status, and how many bytes of the file are those of the
+/// image then.
 type Row = (&'static str, u64, u8, usize);
 
 static WRITTEN: [Row; 5] = [
@@ -72,12 +73,12 @@ static WRITTEN: [Row; 5] = [
     ("convert -n --alone disk.raw out.bin", 9, 0, IMAGE),
     ("convert -n --force disk.raw -fraw out.bin", 2, 0, IMAGE),
     // What was written before a refusal stays.
-    ("convert -n disk.raw out.bin", 1, 1, 1 << 20),
+    ("convert -n disk.raw out.bin", 1, 1, 1 << 18),
     ("convert -n disk.raw out.bin", 0, 1, 0),
 ];
 
 /// How many bytes the image has, and the file that it is written into.
-const IMAGE: usize = (1 << 20) + 4;
+const IMAGE: usize = (1 << 18) + 4;
 
 const OUT: usize = IMAGE + 3;
 
