@@ -58,11 +58,12 @@ fn end_at<D: FormatDriverInstance>(
 }
 
 /// How many bytes of a run come before those that are known to be zero, which are the rest of it:
-/// none of a run of zeroes, and of a stored one those before the end of its storage.
+/// none of a run of zeroes, of a stored one those before the end of its storage, and of a special
+/// one all of it.
 ///
 /// A storage is asked for its length once. Where it refuses to tell it, nothing is known of what
 /// lies behind its end; nor is it where the layer is too deep for a mapping to tell its depth.
-pub(crate) fn data_count<D: FormatDriverInstance>(image: &FormatAccess<D>, run: Run) -> u64
+pub fn data_count<D: FormatDriverInstance>(image: &FormatAccess<D>, run: Run) -> u64
     requires { IsRunAt (target D.view image.now) run.at run }
     ensures within { result ≤ run.count }
     ensures zero { AreZeroBehind (disk_value D.view image.now) run.at result run.count }

@@ -36,8 +36,9 @@ pub struct NewQcow2 {
 /// what the new file then has: it shows the image's disk, byte for byte, with zeroes up to the next
 /// multiple of 512 bytes. Clusters that are zero aren't stored, unless all are to be.
 ///
-/// The disk is read twice, but once where all clusters are stored. An image that changes between is
-/// refused.
+/// The disk is read to find what is zero, and again to write it. The first reading passes over most
+/// of each cluster whose first bytes have data, and is left out where all clusters are to be
+/// stored. An image that changes between is refused.
 ///
 /// Which paths may be taken, what is looked at before, what is warned of, and what a refusal leaves
 /// is as for [`convert_image`](crate::convert::convert_image).

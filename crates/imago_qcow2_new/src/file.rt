@@ -15,7 +15,8 @@ use std::alloc::Global;
 
 /// Puts a new qcow2 file of an image's disk into a target that is empty. The image is one over any
 /// chain of layers; the file has no layer below. Clusters that are zero aren't stored. The disk is
-/// read twice, by way of the buffer: once to find these, and once to write the others.
+/// read by way of the buffer: first to find these, as [`layout_of`] says, and then to write the
+/// others.
 ///
 /// What the target has then is a file of that format for the disk (`IsQcow2Of`), which is said
 /// where the target tells what it has, and the image tells its bytes: its header has no fault, its

@@ -88,6 +88,7 @@ const MOST_TABLES: u64 = 4194304;
 
 /// The size of a disk that has so many bytes at least: in whole sectors of 512 bytes.
 pub fn rounded_size(size: u64) -> Result<u64, FormatError>
+    ensures least { IfOk result (λ n. size ≤ n) }
     ensures most { IfOk result (λ n. n ≤ 2 ^ 62) }
     ensures value { IfOk result (λ n. n ≡ next_multiple_of size 512) }
 {

@@ -1,54 +1,49 @@
 // SPDX-License-Identifier: MIT
 //! Which clusters of a disk are to be stored in a new file of it.
-ghost use Rattle.std.specs.Prelude.{◌≡◌, ◌+◌, ◌^◌, ◌<◌, ◌≤◌, length, None, IfOk, false};
+ghost use Rattle.std.specs.Prelude.{◌≡◌, ◌+◌, ◌^◌, ◌<◌, ◌≤◌, length, IfOk, false};
 ghost use Rattle.imago_access.specs.Chain.{driver};
+ghost use Rattle.imago_access.specs.ReaderOf.{IsKeeping};
 ghost use Rattle.imago_qcow2_new.specs.Layout.{IsLayoutOf, StoresNothing};
 ghost use Rattle.imago_qcow2_new.specs.Names.{HasNamesOf};
 
 use crate::extents::Extents;
 use crate::format::{Backing, Format, FormatError};
 use crate::layout::{Layout, cluster_length, rounded_size};
-use crate::write::NewFileError;
+use crate::write::{NewFileError, no_room};
 use crate::zero::is_zero;
 use imago_access::access::FormatAccess;
-use imago_copy::copy::copy_disk;
-use imago_copy::target::Target;
+use imago_access::reader::Reader;
+use imago_copy::ends::data_count;
+use imago_copy::runs::Runs;
 use imago_drivers::drivers::FormatDriverInstance;
-use std::alloc::Global;
-use std::io::{self, ErrorKind};
+use std::alloc::{AllocError, Global};
 
-/// A target that keeps no byte, but in which units of a disk there is one that isn't 0.
+/// How many bytes of a cluster are read before the others, where those that were looked at last
+/// have data.
+const FIRST: u64 = 4096;
+
+/// Which units of a disk have a byte that isn't 0, as far as it was looked at.
 #[derive(Drop)]
 struct Scan {
     stored: Extents,
     /// The length of a unit in bytes.
     unit: u64,
-    /// How many bytes were put in.
-    at: u64,
-    /// How many there may be.
-    size: u64,
+    /// Whether such a byte was among those that were looked at last.
+    is_amid_data: bool,
     ghost positive: { 0 < unit },
     ghost unit_is: { stored.unit ≡ unit },
-    ghost inside: { at ≤ size },
-    ghost small: { size + unit < 2 ^ 64 },
-}
-
-/// More bytes than the disk has.
-fn too_many() -> io::Error {
-    io::Error::from(ErrorKind::InvalidInput)
 }
 
 impl Scan {
-    /// Nothing of a disk of that size, in such units.
-    fn new(alloc: Global, size: u64, unit: u64) -> Self
-        requires positive { 0 < unit }
-        requires small { size + unit < 2 ^ 64 }
+    /// Nothing of a disk in such units.
+    fn new(alloc: Global, unit: u64) -> Self
+        requires { 0 < unit }
+        ensures { result.unit ≡ unit }
     {
         Scan {
             stored: Extents::new(alloc, unit),
             unit,
-            at: 0,
-            size,
+            is_amid_data: false,
         }
     }
 
@@ -57,48 +52,122 @@ impl Scan {
         self.stored
     }
 
-    /// Looks at the first of the bytes, which are of one unit, and answers how many.
-    fn look(&mut self, source: &[u8]) -> io::Result<usize>
-        ensures { IfOk result (λ n. (0 < n) × (n ≤ length source.now)) }
+    /// How many bytes from an offset on are of its unit, at most that many.
+    fn left_of_unit(&self, at: u64, most: u64) -> u64
+        requires { 0 < most }
+        ensures some { 0 < result }
+        ensures within { result ≤ most }
     {
-        let rest = self.unit - self.at % self.unit;
-        let count = (source.len() as u64).min(rest).min(self.size - self.at);
-        if count == 0 {
-            return Err(too_many());
-        }
-        let end = self.at + count;
-        if !is_zero(&source[..count as usize]) {
-            self.stored.cover(self.at, end)?;
-        }
-        self.at = end;
-        Ok(count as usize)
+        most.min(self.unit - at % self.unit)
     }
-}
 
-impl Target for Scan {
-    ghost contents = { λ _. None };
+    /// Looks at bytes that are of one unit, and begin at that offset of the disk.
+    fn look_in(&mut self, source: &[u8], at: u64) -> Result<(), AllocError>
+        requires { at + length source.now + self.old.unit < 2 ^ 64 }
+        ensures { self.new.unit ≡ self.old.unit }
+    {
+        self.is_amid_data = !is_zero(source);
+        if self.is_amid_data {
+            self.stored.cover(at, at + source.len() as u64)?;
+        }
+        Ok(())
+    }
 
-    ghost made_for = { λ _. None };
-
-    fn append(&mut self, source: &[u8]) -> io::Result<()> {
-        let mut done = 0;
+    /// Looks at bytes that begin at that offset of the disk, unit by unit.
+    fn look_at(&mut self, source: &[u8], at: u64) -> Result<(), AllocError>
+        requires { at + length source.now + self.old.unit < 2 ^ 64 }
+        ensures { self.new.unit ≡ self.old.unit }
+    {
+        let mut done: usize = 0;
         while done < source.len() {
-            done += self.look(&source[done..])?;
+            let here = at + done as u64;
+            let count = self.left_of_unit(here, (source.len() - done) as u64) as usize;
+            self.look_in(&source[done..done + count], here)?;
+            done += count;
         }
         Ok(())
     }
 
-    fn append_zeroes(&mut self, count: u64) -> io::Result<()> {
-        if count > self.size - self.at {
-            return Err(too_many());
+    /// Reads the first bytes of a range, as many as the buffer has room for, looks at them, and
+    /// answers how many they are.
+    fn read_part<D: FormatDriverInstance>(
+        &mut self,
+        alloc: Global,
+        reader: &mut Reader<'_, D>,
+        at: u64,
+        most: u64,
+        buf: &mut [u8],
+    ) -> Result<u64, NewFileError>
+        requires keeping { IsKeeping D.view reader.old }
+        requires small { at + most + self.old.unit < 2 ^ 64 }
+        ensures keeping { IsKeeping D.view reader.new }
+        ensures unit { self.new.unit ≡ self.old.unit }
+        ensures some { IfOk result (λ n. (0 < n) × (n ≤ most)) }
+    {
+        let count = most.min(buf.len() as u64);
+        if count == 0 {
+            return Err(no_room());
         }
-        self.at += count;
+        let chunk = &mut buf[..count as usize];
+        reader.read(alloc, chunk, at)?;
+        self.look_at(chunk, at)?;
+        Ok(count)
+    }
+
+    /// Finds out which of the first units of a range are stored, and answers how many bytes that
+    /// settles.
+    ///
+    /// Behind data, the next unit mostly has data too, and its first bytes show it. So most of a
+    /// dense disk isn't read.
+    fn read_first<D: FormatDriverInstance>(
+        &mut self,
+        alloc: Global,
+        reader: &mut Reader<'_, D>,
+        at: u64,
+        most: u64,
+        buf: &mut [u8],
+    ) -> Result<u64, NewFileError>
+        requires keeping { IsKeeping D.view reader.old }
+        requires some { 0 < most }
+        requires small { at + most + self.old.unit < 2 ^ 64 }
+        ensures keeping { IsKeeping D.view reader.new }
+        ensures unit { self.new.unit ≡ self.old.unit }
+        ensures some { IfOk result (λ n. (0 < n) × (n ≤ most)) }
+    {
+        let rest = self.left_of_unit(at, most);
+        if self.is_amid_data && rest > FIRST {
+            self.read_part(alloc, reader, at, FIRST, buf)?;
+            if self.is_amid_data {
+                return Ok(rest);
+            }
+        }
+        self.read_part(alloc, reader, at, most, buf)
+    }
+
+    /// Reads as much of a range as it takes to know which of its units are stored.
+    fn read_range<D: FormatDriverInstance>(
+        &mut self,
+        alloc: Global,
+        reader: &mut Reader<'_, D>,
+        at: u64,
+        count: u64,
+        buf: &mut [u8],
+    ) -> Result<(), NewFileError>
+        requires keeping { IsKeeping D.view reader.old }
+        requires small { at + count + self.old.unit < 2 ^ 64 }
+        ensures keeping { IsKeeping D.view reader.new }
+        ensures unit { self.new.unit ≡ self.old.unit }
+    {
+        let mut done: u64 = 0;
+        while done < count {
+            done += self.read_first(alloc, reader, at + done, count - done, buf)?;
+        }
         Ok(())
     }
 }
 
-/// The clusters of an image's disk in which a byte isn't 0, for clusters of that length. All of the
-/// disk is read, but for what its mapping tells as zero.
+/// The clusters of an image's disk in which a byte isn't 0, for clusters of that length. What is
+/// known to be zero isn't read, nor is most of a cluster whose first bytes show that it is stored.
 fn stored_clusters<D: FormatDriverInstance>(
     alloc: Global,
     image: &FormatAccess<D>,
@@ -108,23 +177,31 @@ fn stored_clusters<D: FormatDriverInstance>(
     requires least { 512 ≤ cluster }
     requires most { cluster ≤ 2097152 }
 {
-    let size = rounded_size(image.size())?;
-    let mut scan = Scan::new(alloc, size, cluster);
-    copy_disk(alloc, image, &mut scan, buf)?;
+    // A disk that is too large for any file is refused before it is read.
+    rounded_size(image.size())?;
+    let mut scan = Scan::new(alloc, cluster);
+    let mut reader = Reader::new(alloc, image);
+    let mut runs = Runs::new(image)?;
+    while let Some(run) = runs.next_run()? {
+        let count = data_count(runs.image(), run);
+        scan.read_range(alloc, &mut reader, run.at, count, buf)?;
+    }
     Ok(scan.into_stored())
 }
 
 /// Where everything stands in a new file of an image's disk, in which clusters that are zero aren't
-/// stored. All of the disk is read, by way of the buffer, but for what its mapping tells as zero.
+/// stored. The disk is read by way of the buffer, but for what is known to be zero. Behind data,
+/// the first 4 KiB of a longer cluster are read alone, and show in most cases that it is stored.
 ///
-/// What is read here is read again by [`write_image`](crate::write::write_image), and tested there:
-/// so nothing has to be trusted of it.
+/// Clusters that aren't stored are read again by [`write_image`](crate::write::write_image), and
+/// tested there: so nothing has to be trusted of what is found here.
 ///
 /// # Errors
 ///
 /// [`NewFileError::Format`] says that there can be no such file, [`NewFileError::Image`] is a
-/// refusal of the image, and [`NewFileError::Target`] is [`ErrorKind::OutOfMemory`], or
-/// [`ErrorKind::InvalidInput`] where the buffer is empty.
+/// refusal of the image, and [`NewFileError::Target`] is
+/// [`OutOfMemory`](std::io::ErrorKind::OutOfMemory), or
+/// [`InvalidInput`](std::io::ErrorKind::InvalidInput) where the buffer is empty.
 pub fn layout_of<D: FormatDriverInstance>(
     alloc: Global,
     image: &FormatAccess<D>,

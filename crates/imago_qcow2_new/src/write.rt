@@ -21,11 +21,10 @@ use crate::zero::is_zero;
 use imago_access::access::FormatAccess;
 use imago_access::mapping::Mapping;
 use imago_access::reader::Reader;
-use imago_copy::copy::CopyError;
 use imago_copy::target::Target;
 use imago_drivers::drivers::FormatDriverInstance;
 use imago_storage::error;
-use std::alloc::Global;
+use std::alloc::{AllocError, Global};
 use std::io::{self, ErrorKind};
 use thiserror::Error;
 
@@ -65,17 +64,14 @@ impl From<io::Error> for NewFileError {
     }
 }
 
-impl From<CopyError> for NewFileError {
-    fn from(error: CopyError) -> NewFileError {
-        match error {
-            CopyError::Image(error) => NewFileError::Image(error),
-            CopyError::Target(error) => NewFileError::Target(error),
-        }
+impl From<AllocError> for NewFileError {
+    fn from(refused: AllocError) -> NewFileError {
+        NewFileError::Target(io::Error::from(refused))
     }
 }
 
 /// A buffer without room.
-fn no_room() -> NewFileError {
+pub(crate) fn no_room() -> NewFileError {
     NewFileError::Target(io::Error::from(ErrorKind::InvalidInput))
 }
 

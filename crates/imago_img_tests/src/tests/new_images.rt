@@ -9,13 +9,25 @@ use std::process::Abort;
 /// A raw disk of 70001 bytes, in which the first byte is set and the last one.
 const LENGTH: usize = 70001;
 
-/// A host with that disk.
+/// A raw disk of ten clusters of 64 KiB. It is read in parts of 256 KiB, and behind data the first
+/// 4 KiB of a cluster alone: of the fifth one, whose byte 4095 is set, and of the sixth and the
+/// last one, in which these are zero.
+const DENSE: usize = 10 * 65536;
+
+/// A host with these disks.
 fn files(alloc: Global) -> Result<MemoryHost, AllocError> {
     let mut disk = vec![in alloc; 0u8; LENGTH]?;
     disk[0] = 1;
     disk[LENGTH - 1] = 2;
+    let mut dense = vec![in alloc; 0u8; DENSE]?;
+    dense[0] = 3;
+    dense[4 * 65536 - 1] = 3;
+    dense[4 * 65536 + 4095] = 3;
+    dense[5 * 65536 + 4096] = 3;
+    dense[9 * 65536 - 1] = 3;
     let mut host = MemoryHost::new(alloc, 99, true);
     host.add("disk.raw", &disk, Nature::Plain)?;
+    host.add("dense.raw", &dense, Nature::Plain)?;
     Ok(host)
 }
 
@@ -30,7 +42,7 @@ const SOUND: &str = "No errors were found on the image.\n";
 /// A command line, its status, and what it prints or tells as an error.
 type Row = (&'static str, u8, &'static str, &'static str);
 
-static ROWS: [Row; 21] = [
+static ROWS: [Row; 23] = [
     ("convert -O qcow2 disk.raw a.qcow2", 0, "", ""),
     ("compare disk.raw a.qcow2", 0, ALIKE, ""),
     ("check a.qcow2", 0, SOUND, ""),
@@ -67,6 +79,14 @@ static ROWS: [Row; 21] = [
         "imago-img: \"a.qcow2\": a file of the image that is read is never replaced\n",
     ),
     ("convert -Oqcow2 --force b.qcow2 a.qcow2", 0, "", ""),
+    // Five of ten clusters are stored.
+    ("convert -O qcow2 dense.raw dense.qcow2", 0, "", ""),
+    (
+        "compare dense.raw dense.qcow2",
+        0,
+        "Images are identical.\n",
+        "",
+    ),
     // A layer above a disk shows it, and names it.
     ("create -f qcow2 -b disk.raw -F raw top.qcow2", 0, "", ""),
     ("compare disk.raw top.qcow2", 0, ALIKE, ""),
@@ -118,8 +138,9 @@ static ROWS: [Row; 21] = [
 ];
 
 /// How long files are then.
-static LENGTHS: [(&str, usize); 4] = [
+static LENGTHS: [(&str, usize); 5] = [
     ("a.qcow2", 7 * 65536),
+    ("dense.qcow2", 10 * 65536),
     ("full.qcow2", 7 * 65536),
     ("top.qcow2", 4 * 65536),
     ("empty.raw", 70144),
