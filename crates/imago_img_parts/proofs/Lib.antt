@@ -4,8 +4,7 @@ mod NewFiles
 mod Overwritten
 mod Resizes
 mod Told
-mod Printed
-mod Decimals
+mod TextSteps
 mod FaultSteps
 mod Cleared
 mod Opened

@@ -3,6 +3,7 @@ pub mod Files
 pub mod Disks
 pub mod NewFiles
 pub mod Lines
+pub mod Text
 pub mod Checked
 pub mod Extents
 pub mod Openings

@@ -1,19 +1,13 @@
 // SPDX-License-Identifier: MIT
 //! Where the bytes of an image's disk stand.
-ghost use Rattle.std.specs.Prelude.{◌≡◌, ◌<◌, ◌≤◌, ◌++◌, if◌then◌else◌, OnOk, option_map};
-ghost use Rattle.std.specs.Fmt.{decimal};
-ghost use Rattle.std.specs.Io.KnownBytes.{Appends};
-ghost use Rattle.imago_img_parts.specs.Lines.{column, line as line_text, place as place_text};
-ghost use Rattle.imago_img_parts.specs.Lines.{kind_word as kind_text, object};
-ghost use Rattle.imago_img_parts.specs.Lines.{kind_members as kind_members_text};
-ghost use Rattle.imago_img_parts.specs.Lines.{members_in, place_members};
-ghost use Rattle.imago_img_parts.specs.declared.map.LineKind.TheVariants as Kinds;
+ghost use Rattle.std.specs.Prelude.{◌≡◌, ◌<◌, ◌≤◌, if◌then◌else◌};
+ghost use Rattle.imago_img_parts.specs.declared.lines.LineKind.TheVariants as Kinds;
 
-use crate::digits::digits_of;
 use crate::failure::Failure;
 use crate::host::Host;
 use crate::image::{next_runs, not_read, opened};
 use crate::json::quoted;
+use crate::lines::{Line, LineKind, print_line, print_object};
 use imago_access::access::FormatAccess;
 use imago_copy::layers::{LayerRun, LayerRuns};
 use imago_copy::runs::{Kind, Run};
@@ -23,33 +17,6 @@ use imago_storage::error::Error;
 use imago_storage::storage::Storage;
 use std::alloc::{AllocError, Global};
 use std::io::{self, Write};
-
-/// What bytes of a disk are.
-#[derive(Clone, Copy)]
-enum LineKind {
-    /// Data, as it stands in a file.
-    Data,
-    /// Known to be 0, and one layer says so.
-    Zero,
-    /// In no layer, and so 0.
-    Absent,
-    /// Data that is compressed in a file, so that it stands at no offset there.
-    Compressed,
-}
-
-/// Bytes of a disk that all are of one kind.
-#[derive(Clone, Copy)]
-struct Line<'a> {
-    /// The first byte's offset on the disk.
-    start: u64,
-    /// How many bytes there are.
-    length: u64,
-    kind: LineKind,
-    /// The depth of the layer that has them; of absent ones, of the last layer that they lie in.
-    depth: usize,
-    /// The file that they stand in, as it is printed, and from which offset on; or none.
-    place: Option<(&'a str, u64)>,
-}
 
 /// How runs are printed.
 #[derive(Drop)]
@@ -295,115 +262,4 @@ impl<'a, W: Write> Printer<'a, W> {
         self.is_first = false;
         print_object(self.output, line)
     }
-}
-
-/// Prints a number in a column, and what parts it from the next one.
-fn print_column<W: Write>(output: &mut W, number: u64) -> io::Result<()>
-    ensures { OnOk result
-        (Appends (W.contents output.old) (W.contents output.new) (column number)) }
-{
-    let mut digits = [0; 20];
-    let digits = digits_of(number, &mut digits);
-    let mut text = [b' '; 21];
-    text[..digits.len()].copy_from_slice(digits);
-    output.write_all(&text)
-}
-
-/// Prints where a run stands in a file, if in one, behind its kind.
-fn print_place<W: Write>(output: &mut W, place: Option<(&str, u64)>) -> io::Result<()>
-    ensures { OnOk result
-        (Appends (W.contents output.old) (W.contents output.new)
-        (place_text (option_map (λ at. (at.0.now, at.1)) place.entry))) }
-{
-    let Some((file, offset)) = place else {
-        return Ok(());
-    };
-    output.write_all(b" ")?;
-    print_column(output, offset)?;
-    output.write_all(file.as_bytes())
-}
-
-/// What a line of columns calls bytes.
-#[tactic(auto, unfolding(crate::specs::Lines::kind_word))]
-fn kind_word(kind: LineKind) -> &'static [u8]
-    ensures { result.now ≡ kind_text kind }
-{
-    match kind {
-        LineKind::Data => b"data",
-        LineKind::Zero => b"zero",
-        LineKind::Absent => b"absent",
-        LineKind::Compressed => b"compressed",
-    }
-}
-
-/// Prints a run as a line of columns.
-fn print_line<W: Write>(output: &mut W, line: Line<'_>) -> io::Result<()>
-    ensures { OnOk result (Appends (W.contents output.old) (W.contents output.new)
-        (line_text line.entry.start line.entry.length line.entry.kind
-        (option_map (λ at. (at.0.now, at.1)) line.entry.place))) }
-{
-    print_column(output, line.start)?;
-    print_column(output, line.length)?;
-    output.write_all(kind_word(line.kind))?;
-    print_place(output, line.place)?;
-    output.write_all(b"\n")
-}
-
-/// Prints a member of a JSON object, which is a number, behind its name.
-fn print_number<W: Write>(output: &mut W, name: &[u8], number: u64) -> io::Result<()>
-    ensures { OnOk result (Appends (W.contents output.old) (W.contents output.new)
-        (name.now ++ decimal number)) }
-{
-    output.write_all(name)?;
-    output.write_all(digits_of(number, &mut [0; 20]))
-}
-
-/// What JSON says of bytes. Only those that are compressed have the member `compressed`.
-#[tactic(auto, unfolding(crate::specs::Lines::kind_members))]
-fn kind_members(kind: LineKind) -> &'static [u8]
-    ensures { result.now ≡ kind_members_text kind }
-{
-    match kind {
-        LineKind::Data => b", \"present\": true, \"zero\": false, \"data\": true",
-        LineKind::Zero => b", \"present\": true, \"zero\": true, \"data\": false",
-        LineKind::Absent => b", \"present\": false, \"zero\": true, \"data\": false",
-        LineKind::Compressed =>
-            b", \"present\": true, \"zero\": false, \"data\": true, \"compressed\": true",
-    }
-}
-
-/// Prints where a run stands in a file as members of a JSON object.
-fn print_members_in<W: Write>(output: &mut W, file: &str, offset: u64) -> io::Result<()>
-    ensures { OnOk result
-        (Appends (W.contents output.old) (W.contents output.new) (members_in file.now offset)) }
-{
-    print_number(output, b", \"offset\": ", offset)?;
-    output.write_all(b", \"filename\": ")?;
-    output.write_all(file.as_bytes())
-}
-
-/// Prints where a run stands in a file, if in one, as members of a JSON object.
-fn print_place_members<W: Write>(output: &mut W, place: Option<(&str, u64)>) -> io::Result<()>
-    ensures { OnOk result
-        (Appends (W.contents output.old) (W.contents output.new)
-        (place_members (option_map (λ at. (at.0.now, at.1)) place.entry))) }
-{
-    match place {
-        Some((file, offset)) => print_members_in(output, file, offset),
-        None => Ok(()),
-    }
-}
-
-/// Prints a run as a JSON object, with the names that `qemu-img map` has.
-fn print_object<W: Write>(output: &mut W, line: Line<'_>) -> io::Result<()>
-    ensures { OnOk result (Appends (W.contents output.old) (W.contents output.new)
-        (object line.entry.start line.entry.length line.entry.depth line.entry.kind
-        (option_map (λ at. (at.0.now, at.1)) line.entry.place))) }
-{
-    print_number(output, b"{ \"start\": ", line.start)?;
-    print_number(output, b", \"length\": ", line.length)?;
-    print_number(output, b", \"depth\": ", line.depth as u64)?;
-    output.write_all(kind_members(line.kind))?;
-    print_place_members(output, line.place)?;
-    output.write_all(b"}")
 }
