@@ -5,7 +5,7 @@ ghost use Rattle.std.specs.Prelude.{◌<◌};
 
 use imago_access::access::FormatAccess;
 use imago_access::mapping::Mapping;
-use imago_drivers::drivers::Format;
+use imago_drivers::drivers::{Format, FormatDriverInstance};
 use imago_inflate::inflate::inflate;
 use imago_plan::piece::{Piece, Source};
 use imago_qcow2::qcow2::Qcow2;
@@ -291,11 +291,11 @@ fn lone_image(alloc: Global, file: &File) -> Result<FormatAccess<Qcow2<MemStorag
 
 /// At that offset the session of these files tells what the image's own mapping is, as far as its
 /// cluster goes, and what is unpacked is what the image reads.
-fn check_mapping(
+fn check_mapping<D: FormatDriverInstance>(
     rt: &impl Abort,
     alloc: Global,
     files: &[&File],
-    image: &FormatAccess<Qcow2<MemStorage>>,
+    image: &FormatAccess<D>,
     cluster: u64,
     offset: u64,
 ) -> Result<(), Error>
