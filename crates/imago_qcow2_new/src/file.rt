@@ -20,16 +20,16 @@ use std::alloc::Global;
 ///
 /// What the target has then is a file of that format for the disk (`IsQcow2Of`), which is said
 /// where the target tells what it has, and the image tells its bytes: its header has no fault, its
-/// disk is the image's, byte for byte, with zeroes up to the next multiple of 512 bytes, and each of
-/// its clusters is used once and has the reference count 1.
+/// disk is the image's, byte for byte, with zeroes up to the next multiple of 512 bytes, and each
+/// of its clusters is used once and has the reference count 1.
 ///
 /// Where the length of the file has to be known before, [`layout_of`] and [`write_image`] do the
 /// same in two steps.
 ///
 /// # Errors
 ///
-/// Those of [`layout_of`] and of [`write_image`]. What was put in until then stays in the target: it
-/// is no file to keep.
+/// Those of [`layout_of`] and of [`write_image`]. What was put in until then stays in the target:
+/// it is no file to keep.
 pub fn write_file<D: FormatDriverInstance, T: Target>(
     alloc: Global,
     image: &FormatAccess<D>,
