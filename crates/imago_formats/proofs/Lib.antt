@@ -1,0 +1,4 @@
+-- SPDX-License-Identifier: MIT
+pub mod TextSteps
+pub mod HeadLaws
+pub mod TakenSteps

@@ -1,0 +1,5 @@
+-- SPDX-License-Identifier: MIT
+pub mod Bytes
+pub mod Text
+pub mod Probes
+pub mod Laws
