@@ -28,22 +28,23 @@ abbrev pub backing_format : ℕ
 backing_format = 0xe2792aca
 
 -- Header extensions stand one behind the other: the number of the type, the length of what is held,
--- and that, up to a multiple of 8 bytes. Each lies before the end. Type 0 ends them. This finds
--- where the first one for the format of the backing file holds its name, and how long that is; so
--- many steps are enough.
-abbrev pub format_by : ℕ → List ℕ → ℕ → ℕ → Result (Option (ℕ × ℕ)) Error
-format_by zero bytes at end = Ok None
-format_by (suc steps) bytes at end =
+-- and that, up to a multiple of 8 bytes. Each lies before the end. Type 0 ends them. Of those for
+-- the format of the backing file the last one counts: this finds where it holds the name, and how
+-- long that is; `found` where there is none. So many steps are enough.
+abbrev pub format_by : ℕ → List ℕ → Option (ℕ × ℕ) → ℕ → ℕ → Result (Option (ℕ × ℕ)) Error
+format_by zero bytes found at end = Ok found
+format_by (suc steps) bytes found at end =
     if nat_lt at end then
     (if nat_lt (end - at) (8 + be32 bytes (at + 4)) then Err Error.InvalidData else
-    (if nat_eq (be32 bytes at) 0 then Ok None else
-    (if nat_eq (be32 bytes at) backing_format then Ok (Some (at + 8, be32 bytes (at + 4))) else
-    format_by steps bytes (at + (8 + next_multiple_of (be32 bytes (at + 4)) 8)) end)))
-    else Ok None
+    (if nat_eq (be32 bytes at) 0 then Ok found else
+    format_by steps bytes
+    (if nat_eq (be32 bytes at) backing_format then Some (at + 8, be32 bytes (at + 4)) else found)
+    (at + (8 + next_multiple_of (be32 bytes (at + 4)) 8)) end))
+    else Ok found
 
 -- each extension takes 8 bytes at least
-unfoldable pub format_from : List ℕ → ℕ → ℕ → Result (Option (ℕ × ℕ)) Error
-format_from bytes at end = format_by (end - at) bytes at end
+unfoldable pub format_from : List ℕ → Option (ℕ × ℕ) → ℕ → ℕ → Result (Option (ℕ × ℕ)) Error
+format_from bytes found at end = format_by (end - at) bytes found at end
 
 -- they stand behind the header, in the first cluster, before the backing file's name
 abbrev pub extensions_end : List ℕ → ℕ
@@ -51,7 +52,7 @@ extensions_end bytes = if nat_eq (be64 bytes 8) 0 then cluster_length bytes
     else min (cluster_length bytes) (be64 bytes 8)
 
 unfoldable pub format_of : List ℕ → Result (Option (ℕ × ℕ)) Error
-format_of bytes = format_from bytes (own_length bytes) (extensions_end bytes)
+format_of bytes = format_from bytes None (own_length bytes) (extensions_end bytes)
 
 -- the name of the backing file's format
 abbrev pub IsFormatName : List ℕ → Option (Vec ℕ Global) → Type 0

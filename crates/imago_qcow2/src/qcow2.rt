@@ -326,12 +326,12 @@ impl<S: Storage> Qcow2<S> {
         Ok(Some(read_bytes(&self.storage, alloc, self.header.name_start, count)?))
     }
 
-    /// The name of the backing file's format, as the header extension for it has it, where there is
-    /// one.
+    /// The name of the backing file's format, as the last header extension for it has it, where
+    /// there is one.
     ///
-    /// [`Error::InvalidData`] is a header extension that passes the first cluster, or begin of the
-    /// backing file's name; [`Error::Memory`] no room for the name. What the storage is refused for
-    /// is passed on.
+    /// [`Error::InvalidData`] is a header extension that passes the first cluster, or the begin of
+    /// the backing file's name; [`Error::Memory`] no room for the name. What the storage is refused
+    /// for is passed on.
     pub fn backing_format(&self, alloc: Global) -> Result<Option<Vec<u8>>, Error>
         ensures name { IsTrue (S.features (storage_in self.now)).tells_bytes
             → IfOk result (IsFormatName (S.bytes (storage_in self.now))) }

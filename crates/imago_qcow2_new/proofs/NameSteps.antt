@@ -15,7 +15,7 @@ use Rattle.imago_qcow2.specs.Numbers.{be32, be64}
 use Rattle.imago_qcow2.specs.Entry.{cluster_length}
 use Rattle.imago_qcow2.specs.Header.{own_length}
 use Rattle.imago_qcow2.specs.Backing.{extensions_end, format_of, IsBackingName, IsFormatName}
-use Rattle.imago_qcow2.proofs.BackingSteps.{found_here}
+use Rattle.imago_qcow2.proofs.BackingSteps.{goes_on, none_left}
 use Rattle.imago_qcow2.proofs.NumberSteps.{read32}
 use Rattle.imago_qcow2_check.specs.Known.{known_from, IsKnown}
 use Rattle.imago_qcow2_check.proofs.KnownSteps.{known_goes_on, known_end}
@@ -204,6 +204,15 @@ module _ (l : Layout) (values : ℕ → Value) (file : List ℕ) (is : IsWritten
         let d : slice_index l.header.names.bytes.items (8 + next_multiple_of (length format) 8 + 3) ≡ 0 = in_zeroes (8 + next_multiple_of (length format) 8 + 3) (omega arith) (omega arith) in
         omega (arith, a, b, c, d)
 
+    end_long : be32 l.header.names.bytes.items (8 + next_multiple_of (length format) 8 + 4) ≡ 0
+    unfolding be32
+    end_long =
+        let a : slice_index l.header.names.bytes.items (8 + next_multiple_of (length format) 8 + 4) ≡ 0 = in_zeroes (8 + next_multiple_of (length format) 8 + 4) (omega arith) (omega arith) in
+        let b : slice_index l.header.names.bytes.items (8 + next_multiple_of (length format) 8 + 4 + 1) ≡ 0 = in_zeroes (8 + next_multiple_of (length format) 8 + 4 + 1) (omega arith) (omega arith) in
+        let c : slice_index l.header.names.bytes.items (8 + next_multiple_of (length format) 8 + 4 + 2) ≡ 0 = in_zeroes (8 + next_multiple_of (length format) 8 + 4 + 2) (omega arith) (omega arith) in
+        let d : slice_index l.header.names.bytes.items (8 + next_multiple_of (length format) 8 + 4 + 3) ≡ 0 = in_zeroes (8 + next_multiple_of (length format) 8 + 4 + 3) (omega arith) (omega arith) in
+        omega (arith, a, b, c, d)
+
     -- the same in the file
     start_here : be64 file 8 ≡ 8 * words_of l.header.version + l.header.names.start
     start_here =
@@ -254,13 +263,33 @@ module _ (l : Layout) (values : ℕ → Value) (file : List ℕ) (is : IsWritten
         let e : 8 * words_of l.header.version + 4 ≡ own_length file + 4 = omega (arith, o) in
         sym count_is ∙ read32 file l.header.names.bytes.items (8 * words_of l.header.version) read 4 (omega (arith, w)) ∙ ap (be32 file) e
 
+    -- the end of the extensions behind it
+    abbrev behind : ℕ
+    behind = own_length file + (8 + next_multiple_of (length format) 8)
+
+    zero_there : 0 ≡ be32 file behind
+    zero_there =
+        let o = own_is in
+        let w = words_long in
+        let p : 8 * words_of l.header.version + (8 + next_multiple_of (length format) 8) ≡ behind = omega (arith, o) in
+        sym end_is ∙ read32 file l.header.names.bytes.items (8 * words_of l.header.version) read (8 + next_multiple_of (length format) 8) (omega (arith, w)) ∙ ap (be32 file) p
+
+    zero_long : 0 ≡ be32 file (behind + 4)
+    zero_long =
+        let o = own_is in
+        let w = words_long in
+        let p : 8 * words_of l.header.version + (8 + next_multiple_of (length format) 8 + 4) ≡ behind + 4 = omega (arith, o) in
+        sym end_long ∙ read32 file l.header.names.bytes.items (8 * words_of l.header.version) read (8 + next_multiple_of (length format) 8 + 4) (omega (arith, w)) ∙ ap (be32 file) p
+
     format_found : format_of file ≡ Ok (Some (own_length file + 8, length format))
     unfolding format_of
     format_found =
         let o = own_is in
         let e = ends_here in
         let n = long in
-        found_here file (extensions_end file) (own_length file) 3799591626 (length format) type_there count_there (omega (arith, o, e, n, are.start)) (omega (arith, o, e, n, are.start)) refl
+        let name : Option (ℕ × ℕ) = Some (own_length file + 8, length format) in
+        sym (goes_on file (extensions_end file) None (own_length file) 3799591626 (length format) type_there count_there (omega (arith, o, e, n, are.start)) name behind refl refl (omega (arith, o, e, n, are.start)) (λ z. absurd (omega (arith, z))))
+        ∙ none_left file (extensions_end file) name behind 0 0 zero_there zero_long (omega (arith, o, e, n, are.start)) (omega (arith, o, e, n, are.start)) refl
 
     pub format_there : (n : Vec ℕ Global) → n.items ≡ format → IsFormatName file (Some n)
     format_there n same =
@@ -283,12 +312,8 @@ module _ (l : Layout) (values : ℕ → Value) (file : List ℕ) (is : IsWritten
         let o = own_is in
         let e = ends_here in
         let n = long in
-        let w = words_long in
-        let next : ℕ = own_length file + (8 + next_multiple_of (length format) 8) in
-        let p : 8 * words_of l.header.version + (8 + next_multiple_of (length format) 8) ≡ own_length file + (8 + next_multiple_of (length format) 8) = omega (arith, o) in
-        let zero_there : 0 ≡ be32 file (own_length file + (8 + next_multiple_of (length format) 8)) = sym end_is ∙ read32 file l.header.names.bytes.items (8 * words_of l.header.version) read (8 + next_multiple_of (length format) 8) (omega (arith, w)) ∙ ap (be32 file) p in
-        sym (known_goes_on file (extensions_end file) (own_length file) 3799591626 (length format) type_there count_there (omega (arith, o, e, n, are.start)) next refl (omega (arith, o, e, n, are.start)) (λ z. absurd (omega (arith, z))) refl)
-        ∙ known_end file (extensions_end file) next 0 (be32 file (next + 4)) zero_there refl (omega (arith, o, e, n, are.start)) refl
+        sym (known_goes_on file (extensions_end file) (own_length file) 3799591626 (length format) type_there count_there (omega (arith, o, e, n, are.start)) behind refl (omega (arith, o, e, n, are.start)) (λ z. absurd (omega (arith, z))) refl)
+        ∙ known_end file (extensions_end file) behind 0 (be32 file (behind + 4)) zero_there refl (omega (arith, o, e, n, are.start)) refl
 
   -- where there are no names
   module _ (none : l.header.names.bytes.items ≡ []) (few : l.header.names.count ≡ 0) where

@@ -107,32 +107,31 @@ qcow2_refused own fits e r = ⊎_elim
     r.0
 
 -- header extensions in the first cluster are the same in a file that has the same one
-abbrev extension : (ℕ → Result (Option (ℕ × ℕ)) Error) → ℕ → ℕ → ℕ → ℕ → Result (Option (ℕ × ℕ)) Error
-extension next at end kind count =
+abbrev extension : (Option (ℕ × ℕ) → ℕ → Result (Option (ℕ × ℕ)) Error) → Option (ℕ × ℕ) → ℕ → ℕ → ℕ → ℕ → Result (Option (ℕ × ℕ)) Error
+extension next found at end kind count =
     if nat_lt (end - at) (8 + count) then Err Error.InvalidData else
-    (if nat_eq kind 0 then Ok None else
-    (if nat_eq kind backing_format then Ok (Some (at + 8, count)) else
-    next (at + (8 + next_multiple_of count 8))))
+    (if nat_eq kind 0 then Ok found else
+    next (if nat_eq kind backing_format then Some (at + 8, count) else found) (at + (8 + next_multiple_of count 8)))
 
-cut_off : (next : ℕ → Result (Option (ℕ × ℕ)) Error) (at end kind count : ℕ) → end - at < 8 → extension next at end kind count ≡ Err Error.InvalidData
-cut_off next at end kind count less = let t : nat_lt (end - at) (8 + count) ≡ true = lt-ltb (end - at) (8 + count) (omega (arith, less)) in rw t refl
+cut_off : (next : Option (ℕ × ℕ) → ℕ → Result (Option (ℕ × ℕ)) Error) (found : Option (ℕ × ℕ)) (at end kind count : ℕ) → end - at < 8 → extension next found at end kind count ≡ Err Error.InvalidData
+cut_off next found at end kind count less = let t : nat_lt (end - at) (8 + count) ≡ true = lt-ltb (end - at) (8 + count) (omega (arith, less)) in rw t refl
 
 module _ (bytes own : List ℕ) (cluster : ℕ) (same : AreSameBytes bytes own 0 cluster) where
   front32 : (i : ℕ) → i + 4 ≤ cluster → be32 bytes i ≡ be32 own i
   front32 i inside = let e : 0 + i ≡ i = omega arith in let x = range32 bytes own 0 cluster same i inside in rw e at x
 
-  same_by : (steps at end : ℕ) → end ≤ cluster → format_by steps bytes at end ≡ format_by steps own at end
-  same_by zero at end le = refl
-  same_by (suc n) at end le =
-      ap (λ (r : Result (Option (ℕ × ℕ)) Error). if nat_lt at end then r else Ok None)
+  same_by : (steps : ℕ) (found : Option (ℕ × ℕ)) (at end : ℕ) → end ≤ cluster → format_by steps bytes found at end ≡ format_by steps own found at end
+  same_by zero found at end le = refl
+  same_by (suc n) found at end le =
+      ap (λ (r : Result (Option (ℕ × ℕ)) Error). if nat_lt at end then r else Ok found)
       (⊎_elim
       (λ (less : end - at < 8).
-      cut_off (λ (a : ℕ). format_by n bytes a end) at end (be32 bytes at) (be32 bytes (at + 4)) less
-      ∙ sym (cut_off (λ (a : ℕ). format_by n own a end) at end (be32 own at) (be32 own (at + 4)) less))
+      cut_off (λ (f : Option (ℕ × ℕ)) (a : ℕ). format_by n bytes f a end) found at end (be32 bytes at) (be32 bytes (at + 4)) less
+      ∙ sym (cut_off (λ (f : Option (ℕ × ℕ)) (a : ℕ). format_by n own f a end) found at end (be32 own at) (be32 own (at + 4)) less))
       (λ (wide : 8 ≤ end - at).
       let kind = front32 at (omega (arith, wide, le)) in
       let count = front32 (at + 4) (omega (arith, wide, le)) in
-      λ i. extension (λ (a : ℕ). same_by n a end le i) at end (kind i) (count i))
+      λ i. extension (λ (f : Option (ℕ × ℕ)) (a : ℕ). same_by n f a end le i) found at end (kind i) (count i))
       (cases_lt (end - at) 8))
 
 end_inside : (none : Bool) (cluster name : ℕ) → (if none then cluster else min cluster name) ≤ cluster
@@ -148,9 +147,9 @@ format_same bytes own same front =
     let cluster : cluster_length bytes ≡ cluster_length own = ap (λ (n : ℕ). 2 ^ n) (range32 bytes own 0 112 same.header 20 (omega arith)) in
     let begin : own_length bytes ≡ own_length own = rw (version, long) refl in
     let end : extensions_end bytes ≡ extensions_end own = λ i. if nat_eq (name i) 0 then cluster i else min (cluster i) (name i) in
-    same_by bytes own (cluster_length bytes) front (extensions_end bytes - own_length bytes) (own_length bytes) (extensions_end bytes)
+    same_by bytes own (cluster_length bytes) front (extensions_end bytes - own_length bytes) None (own_length bytes) (extensions_end bytes)
     (end_inside (nat_eq (be64 bytes 8) 0) (cluster_length bytes) (be64 bytes 8))
-    ∙ (λ i. format_by (end i - begin i) own (begin i) (end i))
+    ∙ (λ i. format_by (end i - begin i) own None (begin i) (end i))
 
 no_both : (a b : Bool) → b ≡ false → (a && b) ≡ false
 no_both true b h = h
