@@ -12,7 +12,7 @@ use imago::copy::{CopyError, copy_disk};
 use imago::file::HostFile;
 use imago::images::{
     Accepted, FileImage, FileKind, FileStatus, Files, OpenError, Opening, OtherFiles, PathStorage,
-    Reason, open_image,
+    Reason, WritableFiles, open_image,
 };
 use std::alloc::Global;
 use std::fs::{self, File, Metadata, OpenOptions};
@@ -83,15 +83,17 @@ impl<'a> Files for SystemFiles<'a> {
         Ok(one.dev() == other.dev() && one.ino() == other.ino())
     }
 
-    fn open_to_write(&self, path: &str) -> io::Result<File> {
+    fn real_path(&self, path: &str) -> io::Result<String> {
+        Ok(fs::canonicalize(self.rt, path)?.into_string())
+    }
+}
+
+impl<'a> WritableFiles for SystemFiles<'a> {
+    fn open_to_write(&mut self, path: &str) -> io::Result<File> {
         OpenOptions::new()
             .read(true)
             .write(true)
             .open(self.rt, path)
-    }
-
-    fn real_path(&self, path: &str) -> io::Result<String> {
-        Ok(fs::canonicalize(self.rt, path)?.into_string())
     }
 }
 
@@ -108,7 +110,6 @@ pub fn open_disk<'a, H: Files>(host: &'a H, path: &str) -> Result<FileImage<'a, 
         other_files: OtherFiles::InFolder,
         tables: None,
         longest: None,
-        writable: false,
     };
     let (_format, image) = open_image(host, path, how)?;
     Ok(image)

@@ -8,7 +8,8 @@ use Rattle.imago_vmdk.specs.declared.line.Accepted.{Accepted}
 use Rattle.imago_images.specs.declared.format.ImageFormat.{ImageFormat}
 use Rattle.imago_images.specs.Formats.{SaysFormat, IsFormatBy}
 use Rattle.imago_images.specs.Layers.{size_by}
-use Rattle.imago_images.specs.Gate.{IsLetThrough}
+use Rattle.imago_images.specs.Gate.{IsLetThrough, IsInside}
+use Rattle.imago_images.specs.Longest.{IsNoLonger, HasShortL1}
 use Rattle.imago_images.specs.Layers.{IsDriverOf, ShowsLayers}
 use Rattle.imago_images.specs.Images.{IsLayerOf, IsImageIn, LeadsTo}
 use Rattle.imago_images.specs.Way.{is_among}
@@ -16,12 +17,22 @@ use Rattle.imago_images.specs.declared.failure.OpenError.{OpenError}
 use Rattle.imago_images.specs.declared.files.FileStatus.{FileStatus}
 use Rattle.imago_images.specs.declared.format.ImageFormat.TheVariants.{Raw, Vmdk, Qcow2}
 use Rattle.imago_images.specs.Refusals.{IsRefused, IsTooDeep}
-use Rattle.imago_images.specs.Chains.{HasIdentity, GoesDown, IsLayerRefused, IsNextRefused, IsChainRefused, IsWayDown, IsEndingWay}
+use Rattle.imago_images.specs.Chains.{HasIdentity, GoesDown, IsLayerRefused, IsNextRefused, IsChainRefused, IsKept, IsWayDown, IsEndingWay}
 use Rattle.imago_images.specs.declared.opening.OtherFiles.{OtherFiles}
 use Rattle.imago_images.specs.declared.opening.Opening.{Opening}
 
 one_more : (down : List (List ℕ)) (next : List ℕ) (less most : ℕ) → less + 1 ≤ most → length down ≤ less → length (next ∷ down) ≤ most
 one_more down next less most n h = grind (arith, n, h)
+
+-- a file that is let through, and within the limits
+pub kept_told :
+    (known : Option (List ℕ → List ℕ)) (reals : Option (List ℕ → List ℕ)) (how : Opening) (path next : List ℕ)
+    (lower : ImageFormat) → IsLetThrough how.other_files path next → IsInside reals how.other_files path next
+    → IfSome known (λ files. IsNoLonger how.longest how.accepted lower (files next))
+    → IfSome known (λ files. HasShortL1 lower (files next))
+    → IfSome known (λ files. IsKept files reals how path next lower)
+kept_told None reals how path next lower through inside short l1 = tt
+kept_told (Some files) reals how path next lower through inside short l1 = (through, inside, (short, l1))
 
 module _ {D St : Type 0} (view : D → View St) (accepted : Accepted) (others : OtherFiles) where
   pub alone_image :
@@ -131,12 +142,12 @@ module _ {D St : Type 0} (view : D → View St) (accepted : Accepted) (others : 
   ends_here files path Qcow2 inner h is = h.1.1
   ends_here files path Vmdk inner h is = let none : ⊥ = cc is in absurd none
 
-  module _ (statuses : Option (List ℕ → FileStatus)) (above : List (ℕ × ℕ)) (path : List ℕ)
-      (format : ImageFormat) where
+  module _ (statuses : Option (List ℕ → FileStatus)) (reals : Option (List ℕ → List ℕ)) (how : Opening)
+      (above : List (ℕ × ℕ)) (path : List ℕ) (format : ImageFormat) where
     pub last_ends :
         (known : Option (List ℕ → List ℕ)) (inner : D) (most : ℕ)
         → IfSome known (λ files. IsLayerOf view accepted others files path format inner None)
-        → IfSome known (λ files. IsEndingWay files statuses above path format most)
+        → IfSome known (λ files. IsEndingWay files statuses reals how above path format most)
     last_ends None inner most h = tt
     last_ends (Some files) inner most h = ([], ends_here files path format inner h, omega arith)
 
@@ -146,23 +157,25 @@ module _ {D St : Type 0} (view : D → View St) (accepted : Accepted) (others : 
         → IfSome known (λ files. IsLayerOf view accepted others files path format inner (Some next))
         → IfSome known (λ files. SaysFormat (files path) said)
         → IfSome known (λ files. IsFormatBy said next (files next) lower)
+        → IfSome known (λ files. IsKept files reals how path next lower)
         → HasIdentity statuses next file → is_among above file ≡ false → now ≡ above ++ file ∷ []
         → less + 1 ≤ most
-        → IfSome known (λ files. IsEndingWay files statuses now next lower less)
-        → IfSome known (λ files. IsEndingWay files statuses above path format most)
-    next_ends None next said lower inner file now less most h s f i a is n r = tt
-    next_ends (Some files) next said lower inner file now less most h s f i a is n r = (
+        → IfSome known (λ files. IsEndingWay files statuses reals how now next lower less)
+        → IfSome known (λ files. IsEndingWay files statuses reals how above path format most)
+    next_ends None next said lower inner file now less most h s f k i a is n r = tt
+    next_ends (Some files) next said lower inner file now less most h s f k i a is n r = (
       next ∷ r.0,
       (
         goes_down files path next format inner h,
         (
           lower,
           (said, s, f),
+          k,
           (
             file,
             i,
             a,
-            subst (λ (xs : List (ℕ × ℕ)). IsWayDown files statuses xs next lower r.0) is r.1,
+            subst (λ (xs : List (ℕ × ℕ)). IsWayDown files statuses reals how xs next lower r.0) is r.1,
           ),
         ),
       ),

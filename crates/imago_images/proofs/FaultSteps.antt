@@ -24,7 +24,8 @@ use Rattle.imago_images.specs.declared.opening.OtherFiles.{OtherFiles}
 use Rattle.imago_images.specs.HostBytes.{HasBytes}
 use Rattle.imago_images.specs.Extents.{HasFlat}
 use Rattle.imago_images.specs.Chains.{IsNamedRefused, IsLayerRefused}
-use Rattle.imago_images.specs.Refusals.{IsRefused, IsBySystem, IsBySystemOr, IsByVmdk, IsUndescribed, HasExtentIn, folder_asked}
+use Rattle.imago_images.specs.Refusals.{IsRefused, IsBySystem, IsBySystemOr, IsByVmdk, IsUndescribed, HasExtentIn}
+use Rattle.imago_images.specs.Gate.{folder_asked}
 use Rattle.imago_images.proofs.RefusalSteps.{ext_reasons, by_cause, weaker}
 
 -- where extents are refused, one of them is a FLAT one

@@ -15,12 +15,12 @@ use Rattle.imago_access.specs.Chain.{driver}
 use Rattle.imago_drivers.specs.View.{View}
 use Rattle.imago_images.specs.HostBytes.{HasBytes}
 use Rattle.imago_images.specs.Alone.{IsOfAnother, IsOfOneFormat}
-use Rattle.imago_images.specs.Longest.{IsOverLimit, IsTooLarge}
+use Rattle.imago_images.specs.Longest.{IsOverLimit, IsTooLarge, IsNoLonger, HasShortL1}
 use Rattle.imago_images.specs.declared.opening.Opening.{Opening}
 use Rattle.imago_images.specs.Way.{identity}
 use Rattle.imago_images.specs.Refusals.{IsRefused, IsUnknown}
 use Rattle.imago_images.specs.Chains.{HasIdentity, IsLayerRefused, IsNextRefused, IsChainRefused, IsOpeningRefused, IsImageRefused, IsEndingWay, HasEnd}
-use Rattle.imago_images.proofs.RefusalSteps.{where_held, both_held, weaker}
+use Rattle.imago_images.proofs.RefusalSteps.{where_held, weaker}
 
 -- what holds of a refusal
 pub refused_with :
@@ -35,13 +35,18 @@ identity_told (Some status_of) path status h = ap identity h
 
 -- a way from the image's own file leads to its end
 pub has_end :
-    (known : Option (List ℕ → List ℕ)) (statuses : Option (List ℕ → FileStatus)) (path : List ℕ)
-    (format : ImageFormat) (file : ℕ × ℕ) (now : List (ℕ × ℕ)) → HasIdentity statuses path file
-    → now ≡ file ∷ [] → IfSome known (λ files. IsEndingWay files statuses now path format 199)
-    → IfSome known (λ files. HasEnd files statuses path format)
-has_end None statuses path format file now has is h = tt
-has_end (Some files) statuses path format file now has is h =
-    (file, has, subst (λ (xs : List (ℕ × ℕ)). IsEndingWay files statuses xs path format 199) is h)
+    (known : Option (List ℕ → List ℕ)) (statuses : Option (List ℕ → FileStatus)) (reals : Option (List ℕ → List ℕ))
+    (how : Opening) (path : List ℕ) (format : ImageFormat) (file : ℕ × ℕ) (now : List (ℕ × ℕ))
+    → HasIdentity statuses path file → now ≡ file ∷ []
+    → IfSome known (λ files. IsNoLonger how.longest how.accepted format (files path))
+    → IfSome known (λ files. HasShortL1 format (files path))
+    → IfSome known (λ files. IsEndingWay files statuses reals how now path format 199)
+    → IfSome known (λ files. HasEnd files statuses reals how path format)
+has_end None statuses reals how path format file now has is short l1 h = tt
+has_end (Some files) statuses reals how path format file now has is short l1 h = (
+  (short, l1),
+  (file, has, subst (λ (xs : List (ℕ × ℕ)). IsEndingWay files statuses reals how xs path format 199) is h),
+)
 
 module _ {S : Type 0} (features : S → Features) (bytes : S → List ℕ)
     (known : Option (List ℕ → List ℕ)) (statuses : Option (List ℕ → FileStatus))
@@ -119,28 +124,6 @@ module _ {S : Type 0} (features : S → Features) (bytes : S → List ℕ)
       (λ files. IsImageRefused writable files statuses reals others how said path e) held
       (λ files h. inr (inl (refused (files path) (told (files path) h))))
 
-  -- the file isn't opened, for writing or with those below it
-  pub image_out :
-      (writable : Bool) (how : Opening) (format : ImageFormat) (file : ℕ × ℕ) (now : List (ℕ × ℕ))
-      → IfSome known (λ files. shown ≡ Some (files path))
-      → ((held : List ℕ) → HasBytes features bytes held s → IsFormatBy said path held format)
-      → HasIdentity statuses path file → now ≡ file ∷ []
-      → IfSome known (λ files. IsOpeningRefused writable files statuses reals others how now path format e)
-      → IfSome known (λ files. IsImageRefused writable files statuses reals others how said path e)
-  image_out writable how format file now held by has is out =
-      both_held known (λ files. shown ≡ Some (files path))
-      (λ files. IsOpeningRefused writable files statuses reals others how now path format e)
-      (λ files. IsImageRefused writable files statuses reals others how said path e) held out
-      (λ files h o. inr (inr (inl (
-        format,
-        by (files path) (told (files path) h),
-        (
-          file,
-          has,
-          subst (λ (xs : List (ℕ × ℕ)). IsOpeningRefused writable files statuses reals others how xs path format e) is o,
-        ),
-      ))))
-
   -- the image's own file is of another format too
   pub image_another :
       (writable : Bool) (how : Opening) → IfSome known (λ files. shown ≡ Some (files path))
@@ -195,6 +178,26 @@ module _ {S : Type 0} (features : S → Features) (bytes : S → List ℕ)
       where_held known (λ files. shown ≡ Some (files path))
       (λ files. IsOfOneFormat others said (files path)) held
       (λ files h. one (files path) (told (files path) h))
+
+-- the file of an image isn't opened, for writing or with those below it
+pub image_out :
+    (known : Option (List ℕ → List ℕ)) (statuses : Option (List ℕ → FileStatus))
+    (reals : Option (List ℕ → List ℕ)) (others : OtherFiles) (path : List ℕ) (said : Option ImageFormat)
+    (e : OpenError) (writable : Bool) (how : Opening) (format : ImageFormat) (file : ℕ × ℕ) (now : List (ℕ × ℕ))
+    → IfSome known (λ files. IsFormatBy said path (files path) format)
+    → HasIdentity statuses path file → now ≡ file ∷ []
+    → IfSome known (λ files. IsOpeningRefused writable files statuses reals others how now path format e)
+    → IfSome known (λ files. IsImageRefused writable files statuses reals others how said path e)
+image_out None statuses reals others path said e writable how format file now by has is out = tt
+image_out (Some files) statuses reals others path said e writable how format file now by has is out = inr (inr (inl (
+  format,
+  by,
+  (
+    file,
+    has,
+    subst (λ (xs : List (ℕ × ℕ)). IsOpeningRefused writable files statuses reals others how xs path format e) is out,
+  ),
+)))
 
 -- the disk of an image that was opened is too long
 pub image_over :

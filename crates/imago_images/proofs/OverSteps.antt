@@ -1,12 +1,12 @@
 -- What layers above one another show.
 -- SPDX-License-Identifier: MIT
-use Rattle.std.proofs.Common.{◌≡◌, ℕ, ◌&&◌, Bool, true, List, [], ◌∷◌, Option, Some, None, refl, sym, ap, ◌∙◌, subst}
+use Rattle.std.proofs.Common.{◌≡◌, ℕ, ◌&&◌, Bool, true, List, [], ◌∷◌, Option, Some, None, refl, sym, ap, ◌∙◌, subst, Box, Global}
 use Rattle.imago_drivers.specs.Place.{Place, Stored, Zeroed, Special, Lower, Refused, End, Value, shown}
 use Rattle.imago_drivers.specs.View.{View}
-use Rattle.imago_access.specs.declared.access.FormatAccess.{FormatAccess}
-use Rattle.imago_access.specs.Chain.{driver, backing, lent_image}
+use Rattle.imago_access.specs.declared.access.FormatAccess.{FormatAccess, FormatAccess', out-FormatAccess, is-FormatAccess', back-FormatAccess-backing}
+use Rattle.imago_access.specs.Chain.{driver, backing, unboxed, lent_image}
 use Rattle.imago_access.proofs.Chains.{value_out, told_out}
-use Rattle.imago_images.specs.Layers.{layers_value}
+use Rattle.imago_images.specs.Layers.{layers_value, tables_of}
 use Rattle.imago_images.specs.Layers.{IsDriverOf, ShowsLayers}
 
 -- a place shows the same over the same
@@ -42,3 +42,28 @@ module _ {D St : Type 0} (view : D → View St) (x : FormatAccess D) (inner : D)
 
   pub over_shows : (below : FormatAccess D) (rest : ℕ) (layers : List (ℕ → Place)) → driver x ≡ inner → backing x ≡ Some below → IsDriverOf view size place inner → ShowsLayers view below rest layers → ShowsLayers view x size (place ∷ layers)
   over_shows below rest layers is under of shows = laid (Some below) layers is under of shows.0 shows.2
+
+module _ {D : Type 0} (tables : D → ℕ) where
+  abbrev below_tables : Option (FormatAccess D) → List ℕ
+  below_tables None = []
+  below_tables (Some x) = tables_of tables x
+
+  tables_back : (inner : D) (b : Option (Box (FormatAccess D) Global))
+      → tables_of tables (FormatAccess' inner (back-FormatAccess-backing D b)) ≡ tables inner ∷ below_tables (unboxed b)
+  tables_back inner None = refl
+  tables_back inner (Some b) = refl
+
+  pub tables_out : (x : FormatAccess D) → tables_of tables x ≡ tables (driver x) ∷ below_tables (backing x)
+  tables_out x = ap (tables_of tables) (is-FormatAccess' x) ∙ tables_back (driver x) (out-FormatAccess D x).backing
+
+  pub alone_tables : (x : FormatAccess D) (inner : D) → driver x ≡ inner → backing x ≡ None
+      → tables_of tables x ≡ tables inner ∷ []
+  alone_tables x inner is under =
+      tables_out x ∙ ap (λ (d : D). tables d ∷ below_tables (backing x)) is
+      ∙ ap (λ (b : Option (FormatAccess D)). tables inner ∷ below_tables b) under
+
+  pub over_tables : (x below : FormatAccess D) (inner : D) → driver x ≡ inner → backing x ≡ Some below
+      → tables_of tables x ≡ tables inner ∷ tables_of tables below
+  over_tables x below inner is under =
+      tables_out x ∙ ap (λ (d : D). tables d ∷ below_tables (backing x)) is
+      ∙ ap (λ (b : Option (FormatAccess D)). tables inner ∷ below_tables b) under

@@ -58,14 +58,14 @@ beside_named text (Some file) filename path relative name is of beside =
 
 -- the gate of the image of that path
 abbrev pub IsGateOf : {H File : Type 0} → H → List ℕ → OtherFiles → MutBor (FolderGate H File) → Type 0
-IsGateOf host path others m = (m.now.host.now ≡ host) × (m.now.image.now ≡ path) × (m.now.other_files ≡ others)
+IsGateOf host path others m = (m.now.door.host.now ≡ host) × (m.now.door.image.now ≡ path) × (m.now.door.others ≡ others)
 
 module _ {H File S : Type 0} (contents : H → Option (List ℕ → List ℕ)) (features : S → Features) (bytes : S → List ℕ) where
   -- what it answers
   abbrev pub IsLookedBy : Opening (MutBor (FolderGate H File)) S
-  IsLookedBy o a b r = (b.now.host.now ≡ a.now.host.now) × (b.now.image.now ≡ a.now.image.now)
-      × (b.now.other_files ≡ a.now.other_files)
-      × IfOk r (IsLooked features bytes (contents a.now.host.now) a.now.other_files a.now.image.now o.filename)
+  IsLookedBy o a b r = (b.now.door.host.now ≡ a.now.door.host.now) × (b.now.door.image.now ≡ a.now.door.image.now)
+      × (b.now.door.others ≡ a.now.door.others)
+      × IfOk r (IsLooked features bytes (contents a.now.door.host.now) a.now.door.others a.now.door.image.now o.filename)
 
   -- a storage that it hands out is that of the file of its path
   pub looked :
@@ -76,16 +76,16 @@ module _ {H File S : Type 0} (contents : H → Option (List ℕ → List ℕ)) (
       → IsGateOf host path others after × IsTrue (features s).tells_bytes
       × (bytes s ≡ files name) × IsLetThrough others path name
   looked host path others files is direct name before after s good (same, image, allowed, at) =
-      let known : contents before.now.host.now ≡ Some files = ap contents good.0 ∙ is in
+      let known : contents before.now.door.host.now ≡ Some files = ap contents good.0 ∙ is in
       let here : name ≡ at.0 = named name at.0 at.1 in
       let told : HasBytes features bytes (files at.0) s =
-      told_one (contents before.now.host.now) files (λ fs. HasBytes features bytes (fs at.0) s) known at.3 in (
+      told_one (contents before.now.door.host.now) files (λ fs. HasBytes features bytes (fs at.0) s) known at.3 in (
         (same ∙ good.0, image ∙ good.1, allowed ∙ good.2),
         told.0,
         told.1 ∙ ap files (sym here),
         subst (λ (p : List ℕ). IsLetThrough others path p) (sym here)
             (subst (λ (i : List ℕ). IsLetThrough others i at.0) good.1
-            (subst (λ (a : OtherFiles). IsLetThrough a before.now.image.now at.0) good.2 at.2)),
+            (subst (λ (a : OtherFiles). IsLetThrough a before.now.door.image.now at.0) good.2 at.2)),
       )
 
 -- a storage that is another one has its bytes

@@ -1,7 +1,7 @@
 -- Refusals, passed on.
 -- SPDX-License-Identifier: MIT
 use Rattle.std.proofs.Common.{◌≡◌, ℕ, ◌+◌, ◌⊎◌, Bool, true, false, not, List, Option, Some, None, Result, Ok, Err, IfErr, IfSome}
-use Rattle.std.proofs.Common.{refl, sym, ap, ◌∙◌, subst, length, inl, inr, IsOk, IsErr, IsTrue, MatchResult}
+use Rattle.std.proofs.Common.{refl, sym, ap, ◌∙◌, subst, length, inl, inr, IsOk, IsErr, IsTrue, MatchResult, IsSome}
 use Rattle.std.specs.Path.{PathStartsWith}
 use Rattle.imago_storage.specs.Error.{IsExtRefusal}
 use Rattle.imago_storage.specs.Features.{Features}
@@ -20,10 +20,13 @@ use Rattle.imago_images.specs.declared.failure.OpenError.{OpenError}
 use Rattle.imago_images.specs.declared.failure.Reason.{Reason}
 use Rattle.imago_images.specs.HostBytes.{HasBytes}
 use Rattle.imago_images.proofs.PartSteps.{told_same}
-use Rattle.imago_images.specs.FolderParts.{IsBounded, IsBeyond}
+use Rattle.imago_images.specs.FolderParts.{IsBounded, IsBeyond, IsWithin}
 use Rattle.imago_images.specs.BackingNames.{file_named}
 use Rattle.imago_images.specs.Layers.{SaysBacking}
-use Rattle.imago_images.specs.Refusals.{IsRefused, IsBySystem, IsBySystemOr, IsByDriver, IsUnread, IsProtocol, IsByQcow2, IsUnopenedBy, IsUnopened, folder_asked}
+use Rattle.imago_images.specs.Refusals.{IsRefused, IsBySystem, IsBySystemOr, IsByDriver, IsUnread, IsProtocol, IsByQcow2, IsUnopenedBy, IsUnopened}
+use Rattle.imago_images.specs.Gate.{folder_asked, IsLetThrough, IsInside}
+use Rattle.imago_images.specs.declared.opening.OtherFiles.{OtherFiles}
+use Rattle.imago_images.specs.declared.opening.OtherFiles.TheVariants as Others
 
 -- by a reason that says less
 pub weaker :
@@ -240,6 +243,19 @@ leads_out None image path bounds b beyond = tt
 leads_out (Some real) image path None b beyond = absurd beyond
 leads_out (Some real) image path (Some folder) b beyond =
     λ within. beyond (subst (λ (f : List ℕ). PathStartsWith (real path) f) (sym b) within)
+
+-- what is let through stands inside, where no link leads out of bounds
+pub stands_inside :
+    (reals : Option (List ℕ → List ℕ)) (others : OtherFiles) (image path : List ℕ) (bounds : Option (List ℕ))
+    → IsLetThrough others image path → (others ≡ Others.InFolder → IsWithin reals path bounds)
+    → (others ≡ Others.InFolder → IsSome bounds) → IsBounded reals image bounds → IsInside reals others image path
+stands_inside reals Others.None image path bounds through within some b = absurd through
+stands_inside reals Others.InFolder image path None through within some b =
+    let s : IsSome {T = List ℕ} None = some refl in let none : ⊥ = cc s in absurd none
+stands_inside None Others.InFolder image path (Some folder) through within some b = tt
+stands_inside (Some real) Others.InFolder image path (Some folder) through within some b =
+    subst (λ (f : List ℕ). PathStartsWith (real path) f) b (within refl)
+stands_inside reals Others.Any image path bounds through within some b = tt
 
 -- what the driver refused where the tables are limited
 pub driver_fault :

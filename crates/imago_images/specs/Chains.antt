@@ -10,14 +10,14 @@ use Rattle.imago_images.specs.declared.gate.Named.{Named}
 use Rattle.imago_images.specs.declared.gate.Named.TheVariants.{Extents, Backing}
 use Rattle.imago_images.specs.declared.opening.OtherFiles.{OtherFiles}
 use Rattle.imago_images.specs.Formats.{SaysFormat, IsFormatBy, IsFormatBelow}
-use Rattle.imago_images.specs.Gate.{IsLetThrough}
+use Rattle.imago_images.specs.Gate.{IsLetThrough, IsInside, folder_asked}
 use Rattle.imago_images.specs.Images.{LeadsTo}
 use Rattle.imago_images.specs.Way.{identity, is_among}
 use Rattle.imago_images.specs.Refusals.{IsRefused, IsBySystem, IsUnread, IsUnseen, IsUnknown}
-use Rattle.imago_images.specs.Refusals.{IsInCircle, IsTooDeep, IsUnopened, folder_asked}
+use Rattle.imago_images.specs.Refusals.{IsInCircle, IsTooDeep, IsUnopened}
 use Rattle.imago_images.specs.Refusals.{HasExtentIn, IsNotHandedOut, IsUndescribed, IsUnwritten}
 use Rattle.imago_images.specs.Alone.{IsOfAnother}
-use Rattle.imago_images.specs.Longest.{IsTooLarge}
+use Rattle.imago_images.specs.Longest.{IsTooLarge, IsNoLonger, HasShortL1}
 use Rattle.imago_images.specs.declared.opening.Opening.{Opening}
 
 -- a file has that device and number, where the host tells what its files are
@@ -110,30 +110,49 @@ IsImageRefused writable files statuses reals others how said path e =
     ⊎ ((format : ImageFormat) × IsFormatBy said path (files path) format
     × IsRefused path (IsTooLarge how.longest how.accepted format (files path)) e)
 
+-- A file of that format is within the limits: its disk isn't longer than is allowed, and its L1
+-- table, if it has one, has at most 32 MiB.
+abbrev pub IsLimited : Opening → ImageFormat → List ℕ → Type 0
+IsLimited how format bytes =
+    IsNoLonger how.longest how.accepted format bytes × HasShortL1 format bytes
+
+-- The file of the next path is one that the file of a path may have below it: it is let through, no
+-- link leads out of the folder, and it is within the limits.
+abbrev pub IsKept :
+    (List ℕ → List ℕ) → Option (List ℕ → List ℕ) → Opening → List ℕ → List ℕ → ImageFormat → Type 0
+IsKept files reals how path next lower =
+    IsLetThrough how.other_files path next × IsInside reals how.other_files path next
+    × IsLimited how lower (files next)
+
 -- The files below that of a path, which has that format, down to the last one, which leads to none:
--- none of them is one of those that are given, nor of those above it.
+-- each is kept to what is allowed, and none of them is one of those that are given, nor of those
+-- above it.
 abbrev pub IsWayDown :
-    (List ℕ → List ℕ) → Option (List ℕ → FileStatus) → List (ℕ × ℕ) → List ℕ → ImageFormat
-    → List (List ℕ) → Type 0
-IsWayDown files statuses above path format [] =
+    (List ℕ → List ℕ) → Option (List ℕ → FileStatus) → Option (List ℕ → List ℕ) → Opening
+    → List (ℕ × ℕ) → List ℕ → ImageFormat → List (List ℕ) → Type 0
+IsWayDown files statuses reals how above path format [] =
     format ≡ Qcow2 → LeadsTo (files path) path None
-IsWayDown files statuses above path format (next ∷ down) =
+IsWayDown files statuses reals how above path format (next ∷ down) =
     GoesDown files path format next
     × ((lower : ImageFormat) × IsFormatBelow (files path) next (files next) lower
+    × IsKept files reals how path next lower
     × ((file : ℕ × ℕ) × HasIdentity statuses next file × (is_among above file ≡ false)
-    × IsWayDown files statuses (above ++ file ∷ []) next lower down))
+    × IsWayDown files statuses reals how (above ++ file ∷ []) next lower down))
 
 -- The way down from the file of a path, which has that format, leads to an end, and over at most
 -- that many files: none of them is one of those that are given, nor of those above it.
 abbrev pub IsEndingWay :
-    (List ℕ → List ℕ) → Option (List ℕ → FileStatus) → List (ℕ × ℕ) → List ℕ → ImageFormat → ℕ
-    → Type 0
-IsEndingWay files statuses above path format most =
-    (down : List (List ℕ)) × IsWayDown files statuses above path format down
+    (List ℕ → List ℕ) → Option (List ℕ → FileStatus) → Option (List ℕ → List ℕ) → Opening
+    → List (ℕ × ℕ) → List ℕ → ImageFormat → ℕ → Type 0
+IsEndingWay files statuses reals how above path format most =
+    (down : List (List ℕ)) × IsWayDown files statuses reals how above path format down
     × (length down ≤ most)
 
--- An image's file and those below it are at most 200, and none is one of those above it.
+-- An image's file and those below it are at most 200, each within the limits and, below the first,
+-- kept to what is allowed; and none is one of those above it.
 abbrev pub HasEnd :
-    (List ℕ → List ℕ) → Option (List ℕ → FileStatus) → List ℕ → ImageFormat → Type 0
-HasEnd files statuses path format = (file : ℕ × ℕ) × HasIdentity statuses path file
-    × IsEndingWay files statuses (file ∷ []) path format 199
+    (List ℕ → List ℕ) → Option (List ℕ → FileStatus) → Option (List ℕ → List ℕ) → Opening
+    → List ℕ → ImageFormat → Type 0
+HasEnd files statuses reals how path format = IsLimited how format (files path)
+    × ((file : ℕ × ℕ) × HasIdentity statuses path file
+    × IsEndingWay files statuses reals how (file ∷ []) path format 199)

@@ -4,7 +4,7 @@ use Rattle.std.specs.Prelude.{◌≡◌, ℕ, List, Option, Some, None, option_m
 use Rattle.std.specs.Path.{PathStartsWith}
 use Rattle.std.specs.String.{string_bytes}
 use Rattle.imago_images.specs.declared.folder.Folder.{Folder}
-use Rattle.imago_images.specs.Refusals.{folder_asked}
+use Rattle.imago_images.specs.Gate.{folder_asked}
 
 -- its path without links, where only files in it are looked at
 abbrev pub bounds_in : Folder → Option (List ℕ)
@@ -21,3 +21,8 @@ abbrev pub IsBeyond : Option (List ℕ → List ℕ) → List ℕ → Option (Li
 IsBeyond reals path None = ⊥
 IsBeyond reals path (Some folder) =
     IfSome reals (λ real. PathStartsWith (real path) folder → ⊥)
+
+-- a path without links stands within bounds, if there are any, where the host tells so
+abbrev pub IsWithin : Option (List ℕ → List ℕ) → List ℕ → Option (List ℕ) → Type 0
+IsWithin reals path None = Unit {0}
+IsWithin reals path (Some folder) = IfSome reals (λ real. PathStartsWith (real path) folder)

@@ -4,10 +4,11 @@ use Rattle.std.specs.Prelude.{◌≡◌, ℕ, ◌<◌, ◌⊎◌, false, List, [
 use Rattle.std.specs.Prelude.{length, IsTrue}
 use Rattle.imago_drivers.specs.Place.{Place, Value, Byte, shown}
 use Rattle.imago_drivers.specs.View.{View}
-use Rattle.imago_access.specs.declared.access.FormatAccess.{FormatAccess}
+use Rattle.imago_access.specs.declared.access.FormatAccess.{FormatAccess, FormatAccess'}
+use Rattle.imago_access.specs.declared.access.FormatAccess.{Held-FormatAccess-backing, None', Some'}
 use Rattle.imago_any_driver.specs.declared.any.AnyDriver.{AnyDriver}
 use Rattle.imago_any_driver.specs.declared.any.AnyDriver.TheVariants as Driver
-use Rattle.imago_qcow2.specs.Limit.{loaded_length}
+use Rattle.imago_qcow2.specs.Limit.{loaded_length, IsWithin}
 use Rattle.imago_qcow2.specs.Qcow2Image.{loaded_in}
 use Rattle.imago_access.specs.Chain.{driver, disk_value, tells_bytes}
 use Rattle.imago_vmdk.specs.declared.line.Accepted.{Accepted}
@@ -59,3 +60,17 @@ NeverWrites view inner = (view inner).abilities.is_writable ≡ false
 abbrev pub tables_in : {S : Type 0} {g : _} {h : _} → AnyDriver S g h → ℕ
 tables_in (Driver.Qcow2 d) = loaded_length (loaded_in d)
 tables_in _ = 0
+
+abbrev mutual
+  -- how many bytes the tables have of each layer of an image, the top one first
+  pub tables_of : {D : Type 0} → (D → ℕ) → FormatAccess D → List ℕ
+  tables_of tables (FormatAccess' inner below) = tables inner ∷ tables_below tables below
+
+  pub tables_below : {D : Type 0} → (D → ℕ) → Held-FormatAccess-backing D → List ℕ
+  tables_below tables None' = []
+  tables_below tables (Some' k x) = tables_of tables x
+
+-- each of these numbers is no more than a limit, where there is one
+abbrev pub AreWithin : Option ℕ → List ℕ → Type 0
+AreWithin most [] = Unit {0}
+AreWithin most (n ∷ rest) = IsWithin most n × AreWithin most rest

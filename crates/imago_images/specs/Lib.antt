@@ -5,6 +5,7 @@ pub mod Opening
 pub mod Extents
 pub mod HostBytes
 pub mod PathFile
+pub mod DoorParts
 pub mod PathCalls
 pub mod Gate
 pub mod FolderParts

@@ -11,15 +11,19 @@ is_read R.Nothing path = false
 is_read (R.File file) path = bytes_eq path file.now
 is_read (R.Files first second) path = bytes_eq path first.now || bytes_eq path second.now
 is_read (R.Copy source target) path = bytes_eq path source.now
-is_read R.Everything path = true
+is_read (R.Fresh target) path = false
+is_read R.Reading path = true
+is_read (R.ReadingInto target) path = true
 
--- whether a path is written to: a new file gets it, or the one that is there is written over
+-- whether a path is written to: a new file gets it, or the one that is there is changed
 abbrev pub is_made : Reach → List ℕ → Bool
 is_made R.Nothing path = false
 is_made (R.File file) path = false
 is_made (R.Files first second) path = false
 is_made (R.Copy source target) path = bytes_eq path target.now
-is_made R.Everything path = true
+is_made (R.Fresh target) path = bytes_eq path target.now
+is_made R.Reading path = false
+is_made (R.ReadingInto target) path = bytes_eq path target.now
 
 -- whether a path is looked at: it is read, or written to
 abbrev pub is_seen : Reach → List ℕ → Bool

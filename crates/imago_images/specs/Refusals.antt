@@ -1,7 +1,7 @@
 -- Why files aren't opened for an image: whose fault it is, and what holds there.
 -- SPDX-License-Identifier: MIT
-use Rattle.std.specs.Prelude.{◌≡◌, ◌≢◌, ℕ, ◌⊎◌, true, false, List, [], ◌∷◌, Option, Some, None}
-use Rattle.std.specs.Prelude.{Ok, Err, IfSome, IsTrue, String, codes, length}
+use Rattle.std.specs.Prelude.{◌≡◌, ◌≢◌, ℕ, ◌⊎◌, true, false, List, Option, Some, None}
+use Rattle.std.specs.Prelude.{Ok, Err, IfSome, IsTrue, String, length}
 use Rattle.std.specs.Global.{Global}
 use Rattle.std.specs.Path.{PathStartsWith}
 use Rattle.std.specs.String.{string_bytes}
@@ -32,7 +32,7 @@ use Rattle.imago_images.specs.declared.signature.Signature.TheVariants as Of
 use Rattle.imago_images.specs.BackingNames.{file_named}
 use Rattle.imago_images.specs.Extents.{HasFlat}
 use Rattle.imago_images.specs.Formats.{format_named, told_format}
-use Rattle.imago_images.specs.Gate.{folder_path}
+use Rattle.imago_images.specs.Gate.{folder_path, folder_asked}
 use Rattle.imago_images.specs.Layers.{SaysBacking}
 use Rattle.imago_images.specs.Way.{is_among}
 
@@ -101,15 +101,6 @@ IsInCircle above file reason = ⊥
 abbrev pub IsTooDeep : Reason → Type 0
 IsTooDeep (Reason.TooManyBelow told) = Unit {0}
 IsTooDeep reason = ⊥
-
--- the path by which a host finds the folder of that path by its text
-abbrev pub or_here : List ℕ → List ℕ
-or_here [] = codes "."
-or_here (c ∷ path) = c ∷ path
-
--- the same of the folder of an image's file
-abbrev pub folder_asked : List ℕ → List ℕ
-folder_asked image = or_here (folder_path image)
 
 -- A path leads out of an image's folder: by its text, or by links, where the host tells which paths
 -- its files have without them.

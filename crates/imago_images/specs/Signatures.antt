@@ -1,7 +1,7 @@
 -- What the files of each format begin or end with, and what a file is recognised as by that.
 -- SPDX-License-Identifier: MIT
-use Rattle.std.specs.Prelude.{ℕ, ◌-◌, Bool, true, false, List, [], ◌∷◌, length, take, drop, min}
-use Rattle.std.specs.Prelude.{Option, Some, None, option_map, codes, nat_eq, nat_lt, not}
+use Rattle.std.specs.Prelude.{ℕ, ◌-◌, Bool, true, false, List, [], ◌∷◌, ◌++◌, length, take, drop}
+use Rattle.std.specs.Prelude.{min, Option, Some, None, option_map, codes, nat_eq, nat_lt, not}
 use Rattle.std.specs.Prelude.{◌&&◌, ◌||◌}
 use Rattle.std.specs.Prelude.{if◌then◌else◌}
 use Rattle.std.specs.List.{find}
@@ -59,6 +59,9 @@ first_marks =
     ∷ exact Of.Parallels 0 (codes "WithoutFreeSpace")
     ∷ exact Of.Parallels 0 (codes "WithouFreSpacExt")
     ∷ exact Of.Luks 0 (76 ∷ 85 ∷ 75 ∷ 83 ∷ 186 ∷ 190 ∷ [])
+    ∷ exact Of.Bochs 0 (codes "Bochs Virtual HD Image" ++ 0 ∷ [])
+    ∷ exact Of.Cloop 0 (codes "#!/bin/sh" ++ 10 ∷ codes "#V2.0 Format" ++ 10
+    ∷ codes "modprobe cloop")
     ∷ exact Of.Tar 257 (codes "ustar")
     ∷ exact Of.Gzip 0 (31 ∷ 139 ∷ [])
     ∷ exact Of.Bzip2 0 (codes "BZh")
@@ -101,6 +104,8 @@ format_number Of.Xz = 12
 format_number Of.Zstd = 13
 format_number Of.Zip = 14
 format_number Of.Iso = 15
+format_number Of.Bochs = 16
+format_number Of.Cloop = 17
 
 -- whether a signature is of another format than that one, if there is one
 abbrev pub is_beside : Option Signature → Signature → Bool

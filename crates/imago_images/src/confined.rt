@@ -3,8 +3,8 @@
 ghost use Rattle.std.specs.Prelude.{◌≡◌, ℕ, List, Bool, true};
 ghost use Rattle.imago_images.specs.Reach.{is_read, is_made, is_seen, AreAmong};
 
-use crate::files::{FileStatus, Files};
-use crate::guarded::GuardedFiles;
+use crate::files::{FileStatus, Files, WritableFiles};
+use crate::guarded::{GuardedFiles, GuardedWritableFiles};
 use std::alloc::Global;
 use std::io::{self, ErrorKind};
 
@@ -17,11 +17,15 @@ pub enum Reach<'a> {
     File(&'a str),
     /// Those of two files, which are read.
     Files(&'a str, &'a str),
-    /// The one of a file that is read, and the one of a file that is made or written over, which
-    /// isn't read.
+    /// The one of a file that is read, and the one of a file that is made or written to, which
+    /// isn't read unless it is the same.
     Copy(&'a str, &'a str),
-    /// All.
-    Everything,
+    /// The one of a file that is made, which isn't read.
+    Fresh(&'a str),
+    /// All, which are read.
+    Reading,
+    /// All, which are read, and the one of a file that is made or written to.
+    ReadingInto(&'a str),
 }
 
 impl Reach<'_> {
@@ -34,18 +38,19 @@ impl Reach<'_> {
             Reach::File(file) => path == *file,
             Reach::Files(first, second) => path == *first || path == *second,
             Reach::Copy(source, _) => path == *source,
-            Reach::Everything => true,
+            Reach::Fresh(_) => false,
+            Reach::Reading | Reach::ReadingInto(_) => true,
         }
     }
 
-    /// Whether a path is written to: a new file gets it, or the one that is there is written over.
+    /// Whether a path is written to: a new file gets it, or the one that is there is changed.
     pub fn makes(&self, path: &str) -> bool
         ensures { result ≡ is_made self.now path.now }
     {
         match self {
-            Reach::Nothing | Reach::File(_) | Reach::Files(_, _) => false,
-            Reach::Copy(_, target) => path == *target,
-            Reach::Everything => true,
+            Reach::Nothing | Reach::File(_) | Reach::Files(_, _) | Reach::Reading => false,
+            Reach::Copy(_, target) | Reach::Fresh(target) => path == *target,
+            Reach::ReadingInto(target) => path == *target,
         }
     }
 
@@ -135,17 +140,23 @@ impl<'a, G: GuardedFiles> Files for Confined<'a, G> {
         self.host.is_same_file(one, other)
     }
 
-    fn open_to_write(&self, path: &str) -> io::Result<Self::File> {
-        if !self.reach.reads(path) {
-            return Err(out_of_reach());
-        }
-        self.host.open_to_write(path)
-    }
-
     fn real_path(&self, path: &str) -> io::Result<String> {
         if !self.reach.sees(path) {
             return Err(out_of_reach());
         }
         self.host.real_path(path)
+    }
+}
+
+/// A file is opened for writing if it is one that is read and written to.
+impl<'a, G: GuardedWritableFiles> WritableFiles for Confined<'a, G> {
+    fn open_to_write(&mut self, path: &str) -> io::Result<Self::File> {
+        if !self.reach.reads(path) {
+            return Err(out_of_reach());
+        }
+        if !self.reach.makes(path) {
+            return Err(out_of_reach());
+        }
+        self.host.open_to_write(path)
     }
 }

@@ -12,6 +12,7 @@ use crate::files::{FileKind, FileStatus, Files};
 use imago_file::file::FileStorage;
 use imago_file::host::HostFile;
 use imago_storage::storage::Storage;
+use std::alloc::Global;
 use std::io::{self, ErrorKind};
 
 /// The file of a path.
@@ -77,11 +78,11 @@ impl<'a, H: Files> PathFile<'a, H> {
         })
     }
 
-    /// Looks at the file of that path, and opens it for writing too. It is refused as by
+    /// Looks at the file of that path, which its host opened for writing. It is refused as by
     /// [`look_at`](Self::look_at), and nothing is written by that.
-    pub fn open_to_write(host: &'a H, path: &str) -> Result<Self, OpenError>
-        ensures told { IfOk result (λ f. IfSome (H.contents host.now)
-            (λ files. ⟦<PathFile<'a, H> as HostFile>⟧.contents f ≡ Some (files path.now))) }
+    pub fn opened(host: &'a H, path: &str, file: H::File) -> Result<Self, OpenError>
+        ensures told { IfOk result (λ f. ⟦<PathFile<'a, H> as HostFile>⟧.contents f
+            ≡ H.File.contents file) }
         ensures path { IfOk result (λ f. file_path f ≡ path.now) }
         ensures status { IfOk result (λ f. IfSome (H.statuses host.now)
             (λ status_of. file_status f ≡ status_of path.now)) }
@@ -89,10 +90,11 @@ impl<'a, H: Files> PathFile<'a, H> {
         ensures refused { IfErr result (IsRefused path.now
             (IsUnseen (H.statuses host.now) path.now)) }
     {
-        let mut file = PathFile::look_at(host, path)?;
-        let open = OpenError::or_system(host.alloc(), path, host.open_to_write(path))?;
-        file.access = Access::Open(open);
-        Ok(file)
+        let looked = PathFile::look_at(host, path)?;
+        Ok(PathFile {
+            access: Access::Open(file),
+            ..looked
+        })
     }
 
     /// Whether it is open for writing too.
@@ -133,9 +135,27 @@ pub fn storage_of<'a, H: Files>(
         ≡ is_to_write file.entry) }
     ensures refused { IfErr result (IsRefused path.now IsBySystem) }
 {
-    let alloc = file.host.alloc();
+    let (alloc, writable) = (file.host.alloc(), file.is_writable());
+    named_storage(alloc, path, file, writable)
+}
+
+/// A file that is open as a storage that has the path as its name, and may be written to or not.
+pub(crate) fn named_storage<F: HostFile>(
+    alloc: Global,
+    path: &str,
+    file: F,
+    writable: bool,
+) -> Result<FileStorage<F>, OpenError>
+    ensures told { (held : List ℕ) → F.contents file ≡ Some held
+        → IfOk result (HasBytes ⟦<FileStorage<F> as Storage>⟧.features
+        ⟦<FileStorage<F> as Storage>⟧.bytes held) }
+    ensures path { IfOk result
+        (λ s. (⟦<FileStorage<F> as Storage>⟧.features s).filename ≡ Some path.now) }
+    ensures writable { IfOk result
+        (λ s. (⟦<FileStorage<F> as Storage>⟧.features s).offers_resize ≡ writable) }
+    ensures refused { IfErr result (IsRefused path.now IsBySystem) }
+{
     let name = String::from_str(alloc, path)?;
-    let writable = file.is_writable();
     OpenError::or_system(alloc, path, FileStorage::new(file, Some(name), writable))
 }
 

@@ -1,9 +1,10 @@
 // SPDX-License-Identifier: MIT
 //! Files that are found and read by their paths.
 ghost use Rattle.std.specs.Prelude.{◌≡◌, ℕ, List, Option, None, Some, true};
-ghost use Rattle.std.specs.Prelude.{OnOk, IfOk, IfSome, length};
+ghost use Rattle.std.specs.Prelude.{OnOk, OnErr, IfOk, IfSome, length};
 ghost use Rattle.std.specs.String.{string_bytes};
 ghost use Rattle.imago_plan.specs.PieceBytes.{bytes_at};
+ghost use Rattle.imago_images.specs.HostBytes.{SaysAlike};
 
 use imago_file::host::HostFile;
 use std::alloc::Global;
@@ -34,11 +35,12 @@ pub struct FileStatus {
 }
 
 /// Files that are found and read by their paths. This is all that opening an image and reading it
-/// asks of a host.
+/// asks of a host, and nothing that can be written to comes of it: that is a right of its own,
+/// [`WritableFiles`].
 pub trait Files {
     ghost use Rattle.imago_images.specs.declared.files.FileStatus.{FileStatus};
 
-    /// A file that is open for reading and for writing.
+    /// A file that is open for reading and for writing. Nothing here opens one.
     type File: HostFile;
 
     /// The bytes of each file, by its path, where an implementation says them. No contract says
@@ -74,15 +76,25 @@ pub trait Files {
         ensures { IfOk result (λ same. same ≡ true
             → IfSome (contents self.now) (λ files. files one.now ≡ files other.now)) };
 
-    /// Opens the file of a path for reading and for writing. None is made, cut or changed by that.
-    /// The file has the bytes that are told of it here; what is written to it later, the open file
-    /// alone tells.
-    fn open_to_write(&self, path: &str) -> io::Result<Self::File>
-        ensures { IfOk result (λ f. IfSome (contents self.now)
-            (λ files. Self.File.contents f ≡ Some (files path.now))) };
-
     /// The path that it is without links and relative parts.
     fn real_path(&self, path: &str) -> io::Result<String>
         ensures { IfOk result
             (λ p. IfSome (real_paths self.now) (λ real. string_bytes p ≡ real path.now)) };
+}
+
+/// Files that can be opened for writing too. Whoever has them only by a shared reference can't.
+pub trait WritableFiles: Files {
+    /// Opens the file of a path for reading and for writing. None is made, cut or changed by that.
+    ///
+    /// The open file has the bytes that were told of it. What is written to it later, it alone
+    /// tells: of the file of that path nothing is said here any more. All others are as they were,
+    /// and so is this one where it is refused.
+    fn open_to_write(&mut self, path: &str) -> io::Result<Self::File>
+        ensures told { IfOk result (λ f. IfSome (Self.contents self.old)
+            (λ files. Self.File.contents f ≡ Some (files path.now))) }
+        ensures others { IfSome (Self.contents self.old)
+            (λ files. SaysAlike (Self.contents self.new) files path.now) }
+        ensures refused { OnErr result (Self.contents self.new ≡ Self.contents self.old) }
+        ensures statuses { Self.statuses self.new ≡ Self.statuses self.old }
+        ensures real_paths { Self.real_paths self.new ≡ Self.real_paths self.old };
 }

@@ -1,15 +1,19 @@
 // SPDX-License-Identifier: MIT
 //! The gate of the files that an image names.
 ghost use Rattle.std.specs.Prelude.{◌≡◌, ℕ, List, Option, true, false, Some, IfOk, IfErr, IfSome};
+ghost use Rattle.std.specs.Prelude.{IsSome};
+ghost use Rattle.imago_images.specs.declared.opening.OtherFiles.TheVariants as Others;
 ghost use Rattle.std.specs.String.{string_bytes};
-ghost use Rattle.imago_images.specs.Gate.{folder_path, IsLetThrough, IsLooked};
+ghost use Rattle.imago_images.specs.Gate.{folder_asked, folder_path, IsInside, IsLetThrough};
+ghost use Rattle.imago_images.specs.Gate.{IsLooked};
 ghost use Rattle.imago_images.specs.HostBytes.{HasBytes};
-ghost use Rattle.imago_images.specs.FolderParts.{IsBounded};
+ghost use Rattle.imago_images.specs.FolderParts.{IsBounded, IsWithin};
 ghost use Rattle.imago_images.specs.PathFile.{file_path, file_status, is_to_write};
 ghost use Rattle.imago_images.specs.Refusals.{IsRefused, IsBySystem, IsOutside, IsOut, IsKeptOut};
-ghost use Rattle.imago_images.specs.Refusals.{IsNotHandedOut, folder_asked};
+ghost use Rattle.imago_images.specs.Refusals.{IsNotHandedOut};
 ghost use Rattle.imago_file.specs.Names.{lies_below as lies_below_folder};
 
+use crate::door::Door;
 use crate::failure::{OpenError, Reason};
 use crate::file::{PathFile, PathStorage, storage_of};
 use crate::files::Files;
@@ -53,12 +57,10 @@ pub enum Named {
 /// no path is asked for.
 #[derive(Drop)]
 pub struct FolderGate<'a, 'b, H: Files> {
-    host: &'a H,
-    /// The image's path.
-    image: &'b str,
+    /// The host's files. The gate has no other way to them.
+    door: Door<'a, 'b, H>,
     named: Named,
     folder: Folder,
-    other_files: OtherFiles,
     /// The path of the last file that wasn't handed out.
     refused: Option<String>,
 }
@@ -81,14 +83,16 @@ impl<'a, 'b, H: Files> FolderGate<'a, 'b, H> {
         ensures files { IfOk result (λ g. gate_files g ≡ other_files) }
         ensures bounds { IfOk result
             (λ g. IsBounded (H.real_paths host.now) image.now (gate_bounds g)) }
+        ensures bounded { other_files ≡ Others.InFolder
+            → IfOk result (λ g. IsSome (gate_bounds g)) }
         ensures refused { IfErr result (IsRefused (folder_asked image.now) IsBySystem) }
     {
+        let door = Door::new(host, image, other_files);
+        let folder = Folder::of(&door, image, other_files != OtherFiles::InFolder)?;
         Ok(FolderGate {
-            host,
-            image,
+            door,
             named,
-            folder: Folder::of(host, image, other_files != OtherFiles::InFolder)?,
-            other_files,
+            folder,
             refused: None,
         })
     }
@@ -97,7 +101,7 @@ impl<'a, 'b, H: Files> FolderGate<'a, 'b, H> {
     pub fn image(&self) -> &'b str
         ensures { result.now ≡ gate_image self.now }
     {
-        self.image
+        self.door.image()
     }
 
     /// The path of the last file that wasn't handed out, if there is one.
@@ -109,13 +113,15 @@ impl<'a, 'b, H: Files> FolderGate<'a, 'b, H> {
     fn lets_through(&self, path: &str) -> Result<bool, OpenError>
         ensures through { IfOk result (λ yes. yes ≡ true
             → IsLetThrough (gate_files self.now) (gate_image self.now) path.now) }
+        ensures within { IfOk result (λ yes. yes ≡ true → gate_files self.now ≡ Others.InFolder
+            → IsWithin (H.real_paths (gate_host self.now)) path.now (gate_bounds self.now)) }
         ensures out { IsBounded (H.real_paths (gate_host self.now)) (gate_image self.now)
             (gate_bounds self.now) → IfOk result (λ yes. yes ≡ false
             → IsOut (H.real_paths (gate_host self.now)) (gate_files self.now)
             (gate_image self.now) path.now) }
         ensures refused { IfErr result (IsRefused path.now IsBySystem) }
     {
-        match self.other_files {
+        match self.door.others() {
             OtherFiles::None => Ok(false),
             OtherFiles::InFolder => self.is_in_folder(path),
             OtherFiles::Any => Ok(true),
@@ -126,16 +132,18 @@ impl<'a, 'b, H: Files> FolderGate<'a, 'b, H> {
     fn is_in_folder(&self, path: &str) -> Result<bool, OpenError>
         ensures below { IfOk result (λ yes. yes ≡ true
             → lies_below_folder (folder_path (gate_image self.now)) path.now ≡ true) }
+        ensures within { IfOk result (λ yes. yes ≡ true
+            → IsWithin (H.real_paths (gate_host self.now)) path.now (gate_bounds self.now)) }
         ensures out { IsBounded (H.real_paths (gate_host self.now)) (gate_image self.now)
             (gate_bounds self.now) → IfOk result (λ yes. yes ≡ false
             → IsOutside (H.real_paths (gate_host self.now)) (gate_image self.now) path.now) }
         ensures refused { IfErr result (IsRefused path.now IsBySystem) }
     {
-        if !lies_below(folder_of(self.image), path) {
+        if !lies_below(folder_of(self.door.image()), path) {
             return Ok(false);
         }
-        let leaves = self.folder.leaves(self.host, path);
-        Ok(!OpenError::or_system(self.host.alloc(), path, leaves)?)
+        let leaves = self.folder.leaves(&self.door, path);
+        Ok(!OpenError::or_system(self.door.alloc(), path, leaves)?)
     }
 
     /// Looks at the file of that path, if it is let through.
@@ -151,13 +159,17 @@ impl<'a, 'b, H: Files> FolderGate<'a, 'b, H> {
         ensures read_only { IfOk result (λ f. is_to_write f ≡ false) }
         ensures through { IfOk result
             (λ _. IsLetThrough (gate_files self.now) (gate_image self.now) path.now) }
+        ensures inside { (gate_files self.now ≡ Others.InFolder → IsSome (gate_bounds self.now))
+            → IsBounded (H.real_paths (gate_host self.now)) (gate_image self.now)
+            (gate_bounds self.now) → IfOk result (λ _. IsInside (H.real_paths (gate_host self.now))
+            (gate_files self.now) (gate_image self.now) path.now) }
         ensures refused { IsBounded (H.real_paths (gate_host self.now)) (gate_image self.now)
             (gate_bounds self.now) → IfErr result (IsNotHandedOut (gate_named self.now)
             (H.statuses (gate_host self.now)) (H.real_paths (gate_host self.now))
             (gate_files self.now) (gate_image self.now) path.now) }
     {
         if self.lets_through(path)? {
-            PathFile::look_at(self.host, path)
+            self.door.look_at(path)
         } else {
             Err(self.kept_out(path))
         }
@@ -170,11 +182,11 @@ impl<'a, 'b, H: Files> FolderGate<'a, 'b, H> {
             → IsRefused (gate_image self.now) (IsKeptOut (gate_named self.now) reals
             (gate_files self.now) (gate_image self.now) path.now) result }
     {
-        let alloc = self.host.alloc();
+        let alloc = self.door.alloc();
         match String::from_str(alloc, path) {
             Ok(path) => {
-                let reason = reason_outside(self.named, self.other_files, path);
-                OpenError::of_file(alloc, self.image, reason)
+                let reason = reason_outside(self.named, self.door.others(), path);
+                OpenError::of_file(alloc, self.door.image(), reason)
             }
             Err(_) => OpenError::Memory,
         }

@@ -1,11 +1,12 @@
 // SPDX-License-Identifier: MIT
 //! Files of which only some may be asked for.
 ghost use Rattle.std.specs.Prelude.{◌≡◌, ℕ, List, Option, None, Some, Bool, true};
-ghost use Rattle.std.specs.Prelude.{OnOk, IfOk, IfSome, length};
+ghost use Rattle.std.specs.Prelude.{OnOk, OnErr, IfOk, IfSome, length};
 ghost use Rattle.std.specs.String.{string_bytes};
 ghost use Rattle.imago_plan.specs.PieceBytes.{bytes_at};
+ghost use Rattle.imago_images.specs.HostBytes.{SaysAlike};
 
-use crate::files::{FileStatus, Files};
+use crate::files::{FileStatus, Files, WritableFiles};
 use imago_file::host::HostFile;
 use std::alloc::Global;
 use std::io;
@@ -23,7 +24,7 @@ use std::io;
 pub trait GuardedFiles {
     ghost use Rattle.imago_images.specs.declared.files.FileStatus.{FileStatus};
 
-    /// A file that is open for reading and for writing.
+    /// As [`Files::File`].
     type File: HostFile;
 
     /// The bytes of each file, by its path, where an implementation says them.
@@ -42,7 +43,7 @@ pub trait GuardedFiles {
     /// Whether the file of a path may be opened and read.
     ghost may_read: { List ℕ → Bool };
 
-    /// Whether a new file may get a path, or the one that is there may be written over. No method
+    /// Whether a new file may get a path, or the one that is there may be written to. No method
     /// here does either.
     ghost may_make: { List ℕ → Bool };
 
@@ -70,12 +71,6 @@ pub trait GuardedFiles {
         requires other_asked { may_look other.now ≡ true }
         ensures { IfOk result (λ same. same ≡ true
             → IfSome (contents self.now) (λ files. files one.now ≡ files other.now)) };
-
-    /// As [`Files::open_to_write`], of a path that may be read.
-    fn open_to_write(&self, path: &str) -> io::Result<Self::File>
-        requires asked { may_read path.now ≡ true }
-        ensures { IfOk result (λ f. IfSome (contents self.now)
-            (λ files. Self.File.contents f ≡ Some (files path.now))) };
 
     /// As [`Files::real_path`], of a path that may be looked at.
     fn real_path(&self, path: &str) -> io::Result<String>
@@ -116,11 +111,29 @@ impl<H: Files> GuardedFiles for H {
         Files::is_same_file(self, one, other)
     }
 
-    fn open_to_write(&self, path: &str) -> io::Result<Self::File> {
-        Files::open_to_write(self, path)
-    }
-
     fn real_path(&self, path: &str) -> io::Result<String> {
         Files::real_path(self, path)
+    }
+}
+
+/// Files of which only some may be asked for, and only some may be opened for writing.
+pub trait GuardedWritableFiles: GuardedFiles {
+    /// As [`WritableFiles::open_to_write`], of a path that may be read and written to.
+    fn open_to_write(&mut self, path: &str) -> io::Result<Self::File>
+        requires read { Self.may_read path.now ≡ true }
+        requires made { Self.may_make path.now ≡ true }
+        ensures told { IfOk result (λ f. IfSome (Self.contents self.old)
+            (λ files. Self.File.contents f ≡ Some (files path.now))) }
+        ensures others { IfSome (Self.contents self.old)
+            (λ files. SaysAlike (Self.contents self.new) files path.now) }
+        ensures refused { OnErr result (Self.contents self.new ≡ Self.contents self.old) }
+        ensures statuses { Self.statuses self.new ≡ Self.statuses self.old }
+        ensures real_paths { Self.real_paths self.new ≡ Self.real_paths self.old };
+}
+
+/// Each path may be opened for writing.
+impl<H: WritableFiles> GuardedWritableFiles for H {
+    fn open_to_write(&mut self, path: &str) -> io::Result<Self::File> {
+        WritableFiles::open_to_write(self, path)
     }
 }

@@ -12,7 +12,6 @@
 //!     other_files: OtherFiles::InFolder,
 //!     tables: None,
 //!     longest: None,
-//!     writable: false,
 //! };
 //! let (format, image) = open_image(&host, "disk.qcow2", how)?;
 //! let mut first = [0u8; 512];
@@ -30,6 +29,7 @@
 pub mod alone;
 mod backing_name;
 pub mod confined;
+mod door;
 pub mod failure;
 pub mod file;
 pub mod files;

@@ -35,13 +35,6 @@ pub struct Opening {
     /// one is refused by the header, the descriptor or a raw file's length alone, before any table
     /// of that file is read.
     pub longest: Option<u64>,
-    /// Whether the image is opened for writing. Only raw images can be, and an image of another
-    /// format is refused then.
-    ///
-    /// Say the format of an image that a guest writes to. Else the guest chooses it: it can write
-    /// the header of another format to the beginning of its disk, and the next opening takes the
-    /// image for one that may name other files.
-    pub writable: bool,
 }
 
 impl Opening {

@@ -37,6 +37,10 @@ pub enum Signature {
     Luks,
     /// A DMG image, of macOS.
     Dmg,
+    /// An image of Bochs.
+    Bochs,
+    /// A compressed image of Linux' cloop.
+    Cloop,
     /// A tar archive, as OVA files are.
     Tar,
     /// A file that gzip compressed.
@@ -107,7 +111,7 @@ pub const ISO_OFFSET: u64 = 16 * 2048 + 1;
 pub const ISO_MARK: &[u8] = b"CD001";
 
 /// The marks in the first 512 bytes of a file. The first one that stands there counts.
-pub static FIRST_MARKS: [Mark; 20] = [
+pub static FIRST_MARKS: [Mark; 22] = [
     mark!(Qcow1, 0, b"QFI\xfb\0\0\0\x01"),
     mark!(Qcow2, 0, b"QFI\xfb"),
     mark!(Descriptor, 0, b"# Disk DescriptorFile"),
@@ -122,6 +126,8 @@ pub static FIRST_MARKS: [Mark; 20] = [
     mark!(Parallels, 0, b"WithoutFreeSpace"),
     mark!(Parallels, 0, b"WithouFreSpacExt"),
     mark!(Luks, 0, b"LUKS\xba\xbe"),
+    mark!(Bochs, 0, b"Bochs Virtual HD Image\0"),
+    mark!(Cloop, 0, b"#!/bin/sh\n#V2.0 Format\nmodprobe cloop"),
     mark!(Tar, 257, b"ustar"),
     mark!(Gzip, 0, b"\x1f\x8b"),
     mark!(Bzip2, 0, b"BZh"),
@@ -229,6 +235,8 @@ impl Signature {
             Signature::Zstd => 13,
             Signature::Zip => 14,
             Signature::Iso => 15,
+            Signature::Bochs => 16,
+            Signature::Cloop => 17,
         }
     }
 
@@ -264,6 +272,8 @@ impl Signature {
             Signature::Parallels => "a Parallels image",
             Signature::Luks => "a LUKS volume",
             Signature::Dmg => "a DMG image",
+            Signature::Bochs => "a Bochs image",
+            Signature::Cloop => "a cloop image",
             Signature::Tar => "a tar archive",
             Signature::Gzip => "a file compressed by gzip",
             Signature::Bzip2 => "a file compressed by bzip2",

@@ -9,5 +9,7 @@ mod FaultSteps
 mod Cleared
 mod Opened
 mod LongestLaws
+mod DescribedSteps
 mod VetSteps
+mod SeenSteps
 pub mod VetLaws

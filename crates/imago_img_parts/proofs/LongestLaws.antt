@@ -1,6 +1,6 @@
 -- That a disk is too long is told by its file's head.
 -- SPDX-License-Identifier: MIT
-use Rattle.std.proofs.Common.{◌≡◌, ℕ, ◌+◌, ◌<◌, ◌⊎◌, List, length, Option, Err, refl, sym, ap, ◌∙◌, subst, inl, inr, arith}
+use Rattle.std.proofs.Common.{◌≡◌, ℕ, ◌+◌, ◌<◌, ◌⊎◌, List, length, Err, refl, sym, ap, ◌∙◌, subst, inl, inr, arith}
 use Rattle.std.specs.Prelude.{slice_index}
 use Rattle.std.proofs.lemmas.List.FromFn.{get_or-map-range_with_len}
 use Rattle.imago_storage.specs.declared.error.Error.{Error}
@@ -18,7 +18,7 @@ use Rattle.imago_images.specs.declared.format.ImageFormat.{ImageFormat}
 use Rattle.imago_images.specs.declared.format.ImageFormat.TheVariants.{Raw, Vmdk, Qcow2}
 use Rattle.imago_images.specs.Extents.{size_read}
 use Rattle.imago_images.specs.Layers.{size_by}
-use Rattle.imago_images.specs.Longest.{IsOverLimit, IsSizeUnknown, IsTooLong}
+use Rattle.imago_images.specs.Longest.{IsOverLimit, IsSizeUnknown}
 use Rattle.imago_img_parts.specs.Openings.{HasSameHead, TooLongByHead}
 
 -- the size that a header says is one of its bytes

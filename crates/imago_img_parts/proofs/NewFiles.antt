@@ -1,6 +1,6 @@
 -- The files that commands make, from what is put into them.
 -- SPDX-License-Identifier: MIT
-use Rattle.std.proofs.Common.{◌≡◌, ℕ, inl, inr, Bool, false, List, [], Option, Some, None, Result, Ok, Err, length, OnOk, IsOk, IfSome, IsTrue, refl, sym, ap, subst, ◌∙◌}
+use Rattle.std.proofs.Common.{◌≡◌, ℕ, inl, Bool, false, List, [], Option, Some, None, Result, Ok, Err, length, OnOk, IsOk, IfSome, IsTrue, refl, sym, ap, subst, ◌∙◌}
 use Rattle.std.specs.Prelude.{option_map}
 use Rattle.std.specs.Int.{next_multiple_of}
 use Rattle.std.specs.Prelude.{unwrap_or, replicate, ◌++◌, IfOk}

@@ -1,6 +1,6 @@
 -- The answers to questions, from what the functions that find them say.
 -- SPDX-License-Identifier: MIT
-use Rattle.std.proofs.Common.{◌≡◌, ◌≢◌, ◌≤◌, ◌&&◌, ◌==◌, arith, inl, inr, ℕ, Bool, true, false, not, is_some, List, Option, Some, None, IfSome, refl, sym, ap, subst, ◌∙◌}
+use Rattle.std.proofs.Common.{◌≡◌, ◌≢◌, ◌≤◌, ◌&&◌, ◌==◌, arith, inl, inr, ℕ, Bool, true, false, not, is_some, List, Option, Some, None, IfSome, refl, sym, subst, ◌∙◌}
 use Rattle.std.proofs.lemmas.Bool.{eqb-true, eqb-false, false≢true, not-false, not-true}
 use Rattle.std.proofs.lemmas.Option.{IfSome_then}
 use Rattle.imago_images.specs.declared.format.ImageFormat.{ImageFormat}

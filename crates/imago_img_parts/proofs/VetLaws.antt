@@ -8,8 +8,6 @@ use Rattle.imago_storage.specs.Error.{IsExtRefusal}
 use Rattle.imago_storage.specs.Features.{Features}
 use Rattle.imago_storage.specs.Bytes.{IsReadAt}
 use Rattle.imago_plan.specs.PieceBytes.{bytes_at}
-use Rattle.imago_vmdk.specs.declared.line.Accepted.{Accepted}
-use Rattle.imago_vmdk.specs.declared.line.Extent.{Extent}
 use Rattle.imago_vmdk.specs.Reading.{reading_of}
 use Rattle.imago_qcow2.specs.declared.entry.L2Table.{L2Table}
 use Rattle.imago_qcow2.specs.declared.entry.L2Table.TheVariants as T
@@ -34,17 +32,16 @@ use Rattle.imago_images.specs.declared.opening.OtherFiles.TheVariants as Others
 use Rattle.imago_images.specs.declared.signature.Signature.{Signature}
 use Rattle.imago_images.specs.Alone.{HasOneFormat, IsOfAnother}
 use Rattle.imago_images.specs.Chains.{GoesDown, IsLayerRefused, IsChainRefused, IsImageRefused}
-use Rattle.imago_images.specs.Extents.{HasFlat}
 use Rattle.imago_images.specs.Formats.{told_format, IsFormatBy}
 use Rattle.imago_images.specs.Layers.{SaysBacking, size_by}
 use Rattle.imago_images.specs.Longest.{IsNoLonger, IsOverLimit, IsSizeUnknown, IsTooLong, IsTooLarge, HasLongL1, l1_length}
-use Rattle.imago_images.specs.Refusals.{IsRefused, IsBySystem, IsUnread, IsUnseen, IsUnknown, IsUnopened, IsByQcow2, IsUndescribed, IsByVmdk, HasExtentIn, HasLargerTables}
+use Rattle.imago_images.specs.Refusals.{IsRefused, IsBySystem, IsUnread, IsUnseen, IsUnknown, IsUnopened, IsByQcow2, HasLargerTables}
 use Rattle.imago_images.specs.Signatures.{signature_of, other_signature_of}
 use Rattle.imago_img_parts.specs.declared.failure.Failure.{Failure}
 use Rattle.imago_img_parts.specs.Checked.{most_memory}
-use Rattle.imago_img_parts.specs.Vetted.{named_by, named_tables, AreSafeTables, IsSafeQcow2, AreSafeExtents, IsSafeDescriptor, IsSafeAs, IsVetted, IsOfHost, IsHostRefusal, IsHostFailure, VettedOpens}
+use Rattle.imago_img_parts.specs.Vetted.{named_by, named_tables, AreSafeTables, IsSafeQcow2, IsSafeAs, IsVetted, IsOfHost, IsHostRefusal, IsHostFailure, VettedOpens, VettedIsSeen, IsSeenAs}
 use Rattle.imago_img_parts.specs.VettedParts.{is_of_file, is_told, IsTold}
-use Rattle.imago_img_parts.proofs.VetSteps.{same_extents, named_same, cluster_moved, count_moved, start_moved}
+use Rattle.imago_img_parts.proofs.VetSteps.{named_same, cluster_moved, count_moved, start_moved}
 
 -- what is said of the reason of a refusal
 host_refusal :
@@ -283,62 +280,18 @@ module _ (limit : Option ℕ) (bytes : List ℕ) (safe : IsSafeQcow2 (most_memor
   unopened Reason.OnlyRead h = absurd h
   unopened Reason.NotAFile h = absurd h
 
--- a descriptor that is safe has no FLAT extent
-no_flat : (extents : List (Extent (List ℕ))) (path other : List ℕ) → AreSafeExtents extents → HasFlat extents path other → ⊥
-no_flat [] path other safe none = none
-no_flat (Extent.Zero sectors ∷ extents) path other safe (inl none) = none
-no_flat (Extent.Zero sectors ∷ extents) path other safe (inr has) = no_flat extents path other safe.1 has
-no_flat (Extent.NoAccess sectors ∷ extents) path other safe has = safe.0
-no_flat (Extent.Flat sectors name offset writable vmfs ∷ extents) path other safe has = safe.0
-
-module _ (accepted : Accepted) (bytes : List ℕ) (safe : IsSafeDescriptor accepted bytes) where
-  readable : (error : Error) → reading_of accepted bytes ≡ Err error → ⊥
-  readable error is = let read = safe.2 in let never : ⊥ = cc (read, is) in never
-
-  no_extent : (path other : List ℕ) → HasExtentIn accepted bytes path other → ⊥
-  no_extent path other (extents, size, read, has) =
-      no_flat safe.0 path other safe.3 (subst (λ (es : List (Extent (List ℕ))). HasFlat es path other)
-      (same_extents (reading_of accepted bytes) extents safe.0 size safe.1 read safe.2) has)
-
-  by_vmdk : (path : List ℕ) (error : Error) → IsByVmdk accepted bytes path error → IsExtRefusal error
-  by_vmdk path error (inl ext) = ext
-  by_vmdk path error (inr (inl fault)) = absurd (readable error fault)
-  by_vmdk path error (inr (inr (other, has))) = absurd (no_extent path other has)
-
-  undescribed : (path : List ℕ) (r : Reason) → IsUndescribed accepted bytes path r → IsOfHost r
-  undescribed path (Reason.System answer) h = tt
-  undescribed path (Reason.Image error) h = by_vmdk path error h
-  undescribed path (Reason.Header fault) h = absurd h
-  undescribed path (Reason.TablesTooLarge most) h = absurd h
-  undescribed path (Reason.L1TooLong told) h = absurd h
-  undescribed path (Reason.DiskTooLong size most) h = absurd h
-  undescribed path Reason.Sparse h = absurd h
-  undescribed path (Reason.Recognised found) h = absurd h
-  undescribed path (Reason.Another said found) h = absurd h
-  undescribed path (Reason.TwoFormats found other) h = absurd h
-  undescribed path (Reason.BackingOutside name) h = absurd h
-  undescribed path (Reason.BackingNotPermitted name) h = absurd h
-  undescribed path (Reason.BackingProtocol name) h = absurd h
-  undescribed path (Reason.BackingFormat name) h = absurd h
-  undescribed path (Reason.Loop told) h = absurd h
-  undescribed path (Reason.TooManyBelow told) h = absurd h
-  undescribed path (Reason.Outside name) h = absurd h
-  undescribed path (Reason.NotPermitted name) h = absurd h
-  undescribed path Reason.OnlyRead h = absurd h
-  undescribed path Reason.NotAFile h = absurd h
-
 -- what the size of a disk isn't told for
 module _ (how : Opening) (bytes : List ℕ) where
   safe_qcow2 : (format : ImageFormat) → format ≡ Qcow2 → IsSafeAs how bytes format → IsSafeQcow2 (most_memory how.tables) bytes
   safe_qcow2 format is safe = subst (λ (f : ImageFormat). IsSafeAs how bytes f) is safe
 
-  safe_vmdk : (format : ImageFormat) → format ≡ Vmdk → IsSafeAs how bytes format → IsSafeDescriptor how.accepted bytes
+  safe_vmdk : (format : ImageFormat) → format ≡ Vmdk → IsSafeAs how bytes format → ⊥
   safe_vmdk format is safe = subst (λ (f : ImageFormat). IsSafeAs how bytes f) is safe
 
   module _ (format : ImageFormat) (safe : IsSafeAs how bytes format) where
     size_by_text : (error : Error) → IsExtRefusal error ⊎ ((format ≡ Vmdk) × (reading_of how.accepted bytes ≡ Err error)) → IsExtRefusal error
     size_by_text error (inl ext) = ext
-    size_by_text error (inr (is, fault)) = absurd (readable how.accepted bytes (safe_vmdk format is safe) error fault)
+    size_by_text error (inr (is, fault)) = absurd (safe_vmdk format is safe)
 
     size_unknown : (r : Reason) → IsSizeUnknown how.accepted format bytes r → IsOfHost r
     size_unknown (Reason.System answer) h = tt
@@ -429,10 +382,7 @@ module _ (how : Opening) (files : List ℕ → List ℕ) (statuses : Option (Lis
       → IsLayerRefused files statuses reals others how path format e → IsHostRefusal e
   layer Raw safe e h = host_refusal path IsUnread unread e h
   layer Qcow2 safe e h = host_refusal path (IsUnopened how.tables (files path)) (unopened how.tables (files path) safe) e h
-  layer Vmdk safe e (inl h) =
-      host_refusal path (IsUndescribed how.accepted (files path) path) (undescribed how.accepted (files path) safe path) e h
-  layer Vmdk safe e (inr (inl h)) = host_refusal _ IsBySystem by_system e h
-  layer Vmdk safe e (inr (inr (other, has, named))) = absurd (no_extent how.accepted (files path) safe path other has)
+  layer Vmdk safe e h = absurd safe
 
   chain : (format : ImageFormat) (above : List (ℕ × ℕ)) (down : List (List ℕ)) → IsSafeAs how (files path) format → (e : OpenError)
       → IsChainRefused files statuses reals others how above path format down e → IsHostRefusal e
@@ -507,8 +457,14 @@ module _ (how : Opening) (path bytes : List ℕ) (vetted : IsVetted how path byt
   pub safe_as : IsSafeAs how bytes format
   safe_as = subst (λ (f : ImageFormat). IsSafeAs how bytes f) same vetted.safe
 
+  pub seen_as : IsSeenAs path bytes format
+  seen_as = subst (λ (f : ImageFormat). IsSeenAs path bytes f) same vetted.seen
+
   pub short_as : IsNoLonger how.longest how.accepted format bytes
   short_as = subst (λ (f : ImageFormat). IsNoLonger how.longest how.accepted f bytes) same vetted.longest
+
+pub vetted_is_seen : VettedIsSeen
+vetted_is_seen how path bytes vetted = vetted.seen
 
 pub vetted_opens : VettedOpens
 vetted_opens how files statuses reals path e none vetted h = either h
@@ -532,16 +488,15 @@ vetted_opens how files statuses reals path e none vetted h = either h
 pub opened_vetted :
     {T : Type 0} (known : Option (List ℕ → List ℕ)) (statuses : Option (List ℕ → FileStatus))
     (reals : Option (List ℕ → List ℕ)) (how : Opening) (path : List ℕ) (answer : Result T OpenError) (r : Result T Failure)
-    → how.other_files ≡ Others.None → how.writable ≡ false
-    → IfErr answer (λ e. IfSome known (λ files. IsImageRefused how.writable files statuses reals how.other_files how how.format path e))
+    → how.other_files ≡ Others.None
+    → IfErr answer (λ e. IfSome known (λ files. IsImageRefused false files statuses reals how.other_files how how.format path e))
     → MatchResult answer (λ x. r ≡ Ok x) (λ _. IsErr r)
     → IfErr answer (λ e. IfErr r (λ failure. IsHostRefusal e → IsHostFailure failure))
     → IfErr r (λ failure. IfSome known (λ files. IsVetted how path (files path) → IsHostFailure failure))
-opened_vetted {T} known statuses reals how path (Ok x) r none only refused given told =
+opened_vetted {T} known statuses reals how path (Ok x) r none refused given told =
     subst (λ (q : Result T Failure). IfErr q (λ failure. IfSome known (λ files. IsVetted how path (files path) → IsHostFailure failure)))
     (sym given) tt
-opened_vetted known statuses reals how path (Err e) (Ok x) none only refused given told = tt
-opened_vetted None statuses reals how path (Err e) (Err failure) none only refused given told = tt
-opened_vetted (Some files) statuses reals how path (Err e) (Err failure) none only refused given told = λ vetted.
-    told (vetted_opens how files statuses reals path e none vetted
-    (subst (λ (w : Bool). IsImageRefused w files statuses reals how.other_files how how.format path e) only refused))
+opened_vetted known statuses reals how path (Err e) (Ok x) none refused given told = tt
+opened_vetted None statuses reals how path (Err e) (Err failure) none refused given told = tt
+opened_vetted (Some files) statuses reals how path (Err e) (Err failure) none refused given told = λ vetted.
+    told (vetted_opens how files statuses reals path e none vetted refused)

@@ -1,6 +1,6 @@
 -- Whether the entries of tables can be read.
 -- SPDX-License-Identifier: MIT
-use Rattle.std.proofs.Common.{◌≡◌, ℕ, zero, suc, ◌+◌, ◌*◌, ◌/◌, ◌^◌, ◌<◌, ◌≤◌, ◌⊎◌, Bool, true, false, ◌&&◌, List, [], length, Option, IfOk, IfSome, Result, Ok, Err, refl, sym, ap, ◌∙◌, subst, ⊎_elim, inl, inr, add-one, arith}
+use Rattle.std.proofs.Common.{◌≡◌, ℕ, zero, suc, ◌+◌, ◌*◌, ◌/◌, ◌^◌, ◌<◌, ◌≤◌, Bool, true, false, ◌&&◌, List, length, Option, IfSome, Result, Ok, Err, refl, sym, ap, ◌∙◌, subst, ⊎_elim, add-one, arith}
 use Rattle.std.specs.Prelude.{Decides, None, IsOk, slice_index}
 use Rattle.std.proofs.lemmas.Bool.{cases_eq}
 use Rattle.imago_storage.specs.Bytes.{IsReadAt}
@@ -12,9 +12,6 @@ use Rattle.imago_qcow2.specs.declared.header.Header.{Header}
 use Rattle.imago_qcow2.specs.Header.{IsSound, and_then, magic_fault, support_fault, bounds_fault, added_fault, name_fault, size_fault, table_fault, compression_of, header_of}
 use Rattle.imago_qcow2.specs.Entry.{version_of, cluster_length, per_table, l1_start, table_in_entry, table_of}
 use Rattle.imago_qcow2.specs.Opening.{table_count}
-use Rattle.imago_vmdk.specs.declared.line.Accepted.{Accepted}
-use Rattle.imago_vmdk.specs.declared.line.Extent.{Extent}
-use Rattle.imago_vmdk.specs.Reading.{reading_of, GivesOrMemory}
 use Rattle.imago_qcow2.proofs.NumberSteps.{read64}
 use Rattle.imago_qcow2.proofs.HeldSteps.{enough, span_positive}
 use Rattle.imago_qcow2.proofs.HeaderSteps.{same32, same64, compression_same, header_same, head_same}
@@ -22,7 +19,7 @@ use Rattle.imago_images.specs.declared.opening.Opening.{Opening}
 use Rattle.imago_images.specs.Layers.{SaysBacking}
 use Rattle.imago_images.specs.Longest.{l1_length}
 use Rattle.imago_img_parts.specs.declared.vet_tables.Shape.{Shape}
-use Rattle.imago_img_parts.specs.Vetted.{named_by, named_tables, IsSafeTable, AreSafeTables, AreSafeExtents, IsSafeDescriptor, IsVetted}
+use Rattle.imago_img_parts.specs.Vetted.{named_by, named_tables, IsSafeTable, AreSafeTables, IsVetted}
 use Rattle.imago_img_parts.specs.VettedParts.{IsEntrySafe, IsTableSafe, AreEntriesSafe}
 
 -- one more of them holds, where all did before
@@ -213,48 +210,6 @@ module _ (bytes head : List ℕ) (r : IsReadAt bytes 0 head) (len : 112 ≤ leng
   header_moved file h is ok =
       let e : header_of head file ≡ header_of bytes (length bytes) = header_same bytes head begins file ∙ ap (header_of bytes) is in
       subst (λ (x : Result Header Error). IsOk x) (ok ∙ e) refl
-
--- what was read twice is the same
-first_of : Result (List (Extent (List ℕ)) × ℕ) Error → List (Extent (List ℕ))
-first_of (Ok read) = read.0
-first_of (Err e) = []
-
-pub same_extents :
-    (r : Result (List (Extent (List ℕ)) × ℕ) Error) (xs ys : List (Extent (List ℕ))) (m n : ℕ)
-    → r ≡ Ok (xs, m) → r ≡ Ok (ys, n) → xs ≡ ys
-unfolding first_of
-same_extents r xs ys m n one other = ap first_of (sym one ∙ other)
-
--- a descriptor that was read is safe or not by its extents, and one that can't be isn't
-pub decides_text :
-    (accepted : Accepted) (bytes : List ℕ) (extents : List (Extent (List ℕ))) (size : ℕ) (safe : Bool)
-    → reading_of accepted bytes ≡ Ok (extents, size) → Decides safe (AreSafeExtents extents)
-    → Decides safe (IsSafeDescriptor accepted bytes)
-decides_text accepted bytes extents size safe read each = (
-  (λ is. (extents, size, read, each.0 is)),
-  (λ d. each.1 (subst (λ (es : List (Extent (List ℕ))). AreSafeExtents es)
-      (same_extents (reading_of accepted bytes) d.0 extents d.1 size d.2 read) d.3)),
-)
-
-pub text_faulty :
-    {V : Type 0} (view : V → List (Extent (List ℕ)) × ℕ) (accepted : Accepted) (bytes text : List ℕ)
-    (r : Result V Error) (cause : Error) → r ≡ Err cause → (cause ≡ Error.Memory → ⊥) → text ≡ bytes
-    → GivesOrMemory view r (reading_of accepted text) → IsSafeDescriptor accepted bytes → ⊥
-text_faulty {V} view accepted bytes text r cause is other same gives d =
-    either (subst (λ (q : Result V Error). GivesOrMemory view q (reading_of accepted text)) is gives)
-  where
-    read : reading_of accepted text ≡ Ok (d.0, d.1)
-    read = ap (reading_of accepted) same ∙ d.2
-
-    either : (reading_of accepted text ≡ Err cause) ⊎ ((cause ≡ Error.Memory) × IsOk (reading_of accepted text)) → ⊥
-    either (inl fault) = let never : ⊥ = cc (fault, read) in never
-    either (inr never) = other never.0
-
-pub text_refused :
-    {F : Type 0} (r : Result Bool F) (P Q : Type 0) → IfOk r (λ safe. safe ≡ false) → IfOk r (λ _. Q)
-    → (Q → P → ⊥) → IfOk r (λ safe. Decides safe P)
-text_refused (Ok safe) P Q is q never = subst (λ (b : Bool). Decides b P) (sym is) (decides_no (never q))
-text_refused (Err e) P Q is q never = tt
 
 -- the same by how the image is opened
 pub vetted_as_said : (a b : Opening) → a ≡ b → (known : Option (List ℕ → List ℕ)) (path : List ℕ) (safe : Bool)

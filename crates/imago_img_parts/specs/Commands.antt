@@ -23,6 +23,7 @@ use Rattle.imago_img_parts.specs.Disks.{IsConverted, IsConvertedOver, IsPartlyCo
 use Rattle.imago_img_parts.specs.Disks.{AreAlike, AreUnlike}
 use Rattle.imago_img_parts.specs.NewFiles.{IsNewImage, IsNewlyMade, IsQcow2Copy, format_by}
 use Rattle.imago_img_parts.specs.Checked.{IsChecked}
+use Rattle.imago_img_parts.specs.Described.{IsDescribed}
 use Rattle.imago_img_parts.specs.Openings.{how_by, image_format}
 use Rattle.imago_img_parts.specs.Resized.{IsImageResized}
 use Rattle.imago_img_parts.specs.Vetted.{IsVetted}
@@ -66,7 +67,8 @@ AreToldApart how other same_size files first second false =
 abbrev pub IsAnswered : Question → Option (List ℕ → List ℕ) → Outcome → Type 0
 IsAnswered (Q.Help kind) contents outcome = outcome ≡ Fine
 IsAnswered Q.Version contents outcome = outcome ≡ Fine
-IsAnswered (Q.Info c) contents outcome = outcome ≡ Fine
+IsAnswered (Q.Info c) contents outcome = (outcome ≡ Fine) × IfSome contents
+    (λ files. IsDescribed (how_by c.format c.opening) c.file.now (files c.file.now))
 IsAnswered (Q.Map c) contents outcome = outcome ≡ Fine
 IsAnswered (Q.Check c) contents outcome =
     (verdict : Option Verdict) × (outcome ≡ Checked verdict) × IfSome contents

@@ -9,6 +9,7 @@ pub mod Extents
 pub mod Openings
 pub mod Resized
 pub mod Reaches
+pub mod Described
 pub mod Vetted
 pub mod VettedParts
 pub mod Commands

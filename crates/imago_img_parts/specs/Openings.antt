@@ -37,7 +37,6 @@ how_by format said = record {
   other_files = others_by said.alone said.allow_outside;
   tables = Some (most_memory said.tables);
   longest = said.max_size;
-  writable = false;
 }
 
 -- Two files of that format are alike in what the size of a disk is told by: the length of a raw

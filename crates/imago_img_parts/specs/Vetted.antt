@@ -1,12 +1,12 @@
 -- What is so of a file that is safe to hand on: what opens it, and each place of its disk.
 -- SPDX-License-Identifier: MIT
-use Rattle.std.specs.Prelude.{◌≡◌, ℕ, zero, suc, ◌+◌, ◌*◌, ◌^◌, ◌<◌, ◌≤◌, List, [], ◌∷◌, length}
-use Rattle.std.specs.Prelude.{false, Option, None, Ok, IsOk}
+use Rattle.std.specs.Prelude.{◌≡◌, ℕ, zero, suc, ◌+◌, ◌*◌, ◌^◌, ◌<◌, ◌≤◌, List, length}
+use Rattle.std.specs.Prelude.{false, Option, Some, None, IsOk}
 use Rattle.std.specs.Int.{next_multiple_of}
 use Rattle.imago_storage.specs.Error.{IsExtRefusal}
-use Rattle.imago_vmdk.specs.declared.line.Accepted.{Accepted}
-use Rattle.imago_vmdk.specs.declared.line.Extent.{Extent}
-use Rattle.imago_vmdk.specs.Reading.{reading_of}
+use Rattle.imago_formats.specs.declared.probe.Probed.{Probed}
+use Rattle.imago_formats.specs.declared.probe.Probed.TheVariants as Seen
+use Rattle.imago_formats.specs.Probes.{taken_by_qemu}
 use Rattle.imago_qcow2.specs.declared.entry.L2Table.{L2Table}
 use Rattle.imago_qcow2.specs.declared.entry.L2Table.TheVariants as T
 use Rattle.imago_qcow2.specs.declared.entry.GuestCluster.{GuestCluster}
@@ -83,34 +83,32 @@ pub record IsSafeQcow2 (most : ℕ) (bytes : List ℕ) : Type 0 where
   pub alone : SaysBacking bytes None
   pub tables : AreSafeTables most bytes
 
--- an extent stands in no other file, and may be read
-abbrev pub IsSafeExtent : {N : Type 0} → Extent N → Type 0
-IsSafeExtent (Extent.Zero sectors) = Unit {0}
-IsSafeExtent (Extent.NoAccess sectors) = ⊥
-IsSafeExtent (Extent.Flat sectors name offset writable vmfs) = ⊥
-
-abbrev pub AreSafeExtents : {N : Type 0} → List (Extent N) → Type 0
-AreSafeExtents [] = Unit {0}
-AreSafeExtents (extent ∷ extents) = IsSafeExtent extent × AreSafeExtents extents
-
--- A descriptor with these bytes is safe: it can be read, and each of its extents is zero.
-abbrev pub IsSafeDescriptor : Accepted → List ℕ → Type 0
-IsSafeDescriptor accepted bytes = (extents : List (Extent (List ℕ))) × (size : ℕ)
-    × (reading_of accepted bytes ≡ Ok (extents, size)) × AreSafeExtents extents
-
--- A file with these bytes is safe as an image of that format. Any bytes are a raw disk.
+-- A file with these bytes is safe as an image of that format. Any bytes are a raw disk. No VMDK
+-- descriptor is safe: QEMU reads its lines in another way than they are read here, and so other
+-- extents.
 abbrev pub IsSafeAs : Opening → List ℕ → ImageFormat → Type 0
 IsSafeAs how bytes Raw = Unit {0}
-IsSafeAs how bytes Vmdk = IsSafeDescriptor how.accepted bytes
+IsSafeAs how bytes Vmdk = ⊥
 IsSafeAs how bytes Qcow2 = IsSafeQcow2 (most_memory how.tables) bytes
 
+-- which format of QEMU's that is
+abbrev pub probed_of : ImageFormat → Probed
+probed_of Raw = Seen.Raw
+probed_of Vmdk = Seen.Vmdk
+probed_of Qcow2 = Seen.Qcow2
+
+-- QEMU takes the file of a path with these bytes for one of that format, if it isn't told one
+abbrev pub IsSeenAs : List ℕ → List ℕ → ImageFormat → Type 0
+IsSeenAs path bytes format = taken_by_qemu path bytes ≡ Some (probed_of format)
+
 -- The file of a path with these bytes is safe to hand on: it is of one format, which is the one
--- that is said, if one is; its disk isn't longer than is allowed; and it is safe as an image of
--- that format. No other file is mentioned.
+-- that is said, if one is, and the one that QEMU takes it for; its disk isn't longer than is
+-- allowed; and it is safe as an image of that format. No other file is mentioned.
 pub record IsVetted (how : Opening) (path bytes : List ℕ) : Type 0 where
   pub one : HasOneFormat how.format (signature_of bytes) bytes
   pub format : ImageFormat
   pub is_format : IsFormatBy how.format path bytes format
+  pub seen : IsSeenAs path bytes format
   pub longest : IsNoLonger how.longest how.accepted format bytes
   pub safe : IsSafeAs how bytes format
 
@@ -142,3 +140,8 @@ VettedOpens = (how : Opening) (files : List ℕ → List ℕ) (statuses : Option
     → how.other_files ≡ Others.None → IsVetted how path (files path)
     → IsImageRefused false files statuses reals how.other_files how how.format path e
     → IsHostRefusal e
+
+-- What is safe to hand on is what QEMU takes it for, where QEMU isn't told a format.
+abbrev pub VettedIsSeen : Type 0
+VettedIsSeen = (how : Opening) (path bytes : List ℕ) (vetted : IsVetted how path bytes)
+    → taken_by_qemu path bytes ≡ Some (probed_of vetted.format)

@@ -4,7 +4,7 @@
 use crate::failure::{Failure, Reason};
 use crate::host::Host;
 use imago_images::failure::OpenError;
-use imago_images::file::{PathStorage, look_at, storage_of};
+use imago_images::file::{PathStorage, storage_of};
 use imago_images::format::ImageFormat;
 use imago_images::gate::{FolderGate, Named};
 use imago_images::layer::path_below;
@@ -39,19 +39,6 @@ pub struct Above {
     files: Vec<(u64, u64)>,
     /// The paths, as they are printed.
     told: String,
-}
-
-/// The first image of a chain.
-pub fn first_step<'a, H: Host>(
-    host: &'a H,
-    path: &str,
-    how: Opening,
-) -> Result<Step<PathStorage<'a, H>>, Failure> {
-    Ok(Step {
-        file: look_at(host, path)?,
-        path: String::from_str(host.alloc(), path)?,
-        how,
-    })
 }
 
 /// The image below the one of that path, which is opened so and says that of it.

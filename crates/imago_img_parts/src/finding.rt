@@ -4,6 +4,7 @@ ghost use Rattle.std.specs.Prelude.{◌≡◌, is_some, OnOk};
 ghost use Rattle.imago_img_parts.specs.VettedParts.{is_of_file, is_told, IsTold};
 
 use crate::failure::{Failure, OpenError, Reason};
+use imago_formats::probe::Probed;
 use imago_images::format::ImageFormat;
 use imago_qcow2::fault::HeaderFault;
 use imago_storage::error;
@@ -25,7 +26,10 @@ pub enum Kind {
     DataFile,
     /// A descriptor has an extent in another file.
     Extent,
-    /// The file is of another format than the one that is said, or of one that isn't offered.
+    /// The file is a text descriptor.
+    Descriptor,
+    /// The file is of another format than the one that is said, or of one that isn't offered, or
+    /// QEMU takes it for another one.
     AnotherFormat,
     /// The file is of two formats.
     TwoFormats,
@@ -48,6 +52,7 @@ impl Kind {
             Kind::BackingFile => "backing-file",
             Kind::DataFile => "data-file",
             Kind::Extent => "extent",
+            Kind::Descriptor => "descriptor",
             Kind::AnotherFormat => "another-format",
             Kind::TwoFormats => "two-formats",
             Kind::TooLarge => "too-large",
@@ -92,6 +97,12 @@ pub enum Fault {
     /// An external data file whose name isn't there, isn't UTF-8, or is too long to be shown.
     #[error("it has an external data file, whose name isn't told")]
     DataUnnamed,
+    /// The format that QEMU takes it for, where that isn't its own. None where QEMU sees two.
+    #[error("QEMU takes it for {seen}", seen = seen_of(*.0))]
+    Seen(Option<Probed>),
+    /// That it is a descriptor.
+    #[error("it is a VMDK descriptor, whose lines QEMU reads in another way")]
+    Descriptor,
     /// An extent in the file of that name.
     #[error("its extent is {0:?}")]
     Extent(String),
@@ -127,6 +138,14 @@ pub enum Fault {
     /// An entry of an L2 table.
     #[error("an L2 entry {0}")]
     L2Entry(EntryFault),
+}
+
+/// What QEMU sees in a file.
+fn seen_of(seen: Option<Probed>) -> &'static str {
+    match seen {
+        Some(found) => found.description(),
+        None => "two formats",
+    }
 }
 
 /// What is wrong with a line.
@@ -203,6 +222,9 @@ impl Fault {
             Fault::Opening(reason) => kind_of_reason(reason).unwrap_or(Kind::Invalid),
             Fault::Backing(_) | Fault::BackingOfNoText => Kind::BackingFile,
             Fault::Data(_) | Fault::DataUnnamed => Kind::DataFile,
+            Fault::Seen(Some(_)) => Kind::AnotherFormat,
+            Fault::Seen(None) => Kind::TwoFormats,
+            Fault::Descriptor => Kind::Descriptor,
             Fault::Extent(_) | Fault::ExtentOfLongName(_) => Kind::Extent,
             Fault::NoAccess => Kind::Feature,
             Fault::Line(cause) | Fault::Text(cause) => {

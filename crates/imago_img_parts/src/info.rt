@@ -1,21 +1,30 @@
 // SPDX-License-Identifier: MIT
 //! What an image is.
+ghost use Rattle.std.specs.Prelude.{◌≡◌, ℕ, List, map, Ok, IfOk, OnOk, IfSome};
+ghost use Rattle.std.specs.String.{string_bytes};
+ghost use Rattle.imago_vmdk.specs.Line.{extent_with};
+ghost use Rattle.imago_vmdk.specs.Reading.{reading_of};
+ghost use Rattle.imago_images.specs.declared.opening.OtherFiles.TheVariants as Others;
+ghost use Rattle.imago_images.specs.HostBytes.{HasBytes};
+ghost use Rattle.imago_img_parts.specs.Described.{HasNoFile, HaveNoFiles, IsDescribed, NamesNothing};
 
-use crate::chain::{Above, NamedBelow, Step, first_step, step_below};
+use crate::chain::{Above, NamedBelow, Step, step_below};
 use crate::extents::{ExtentFile, bytes_of, find, tell_fault};
-use crate::failure::Failure;
+use crate::failure::{Failure, Reason};
 use crate::host::Host;
 use crate::json::quoted;
 use crate::looked::descriptor_text;
 use crate::qcow2_info::{Qcow2Report, print_qcow2, print_qcow2_json, report_on_qcow2};
 use crate::sizes::Size;
+use imago_file::name::path_beside;
 use imago_images::alone::refuse_another;
-use imago_images::file::PathStorage;
+use imago_images::file::{PathStorage, look_at};
 use imago_images::format::ImageFormat;
 use imago_images::gate::{FolderGate, Named};
 use imago_images::layer::format_of;
 use imago_images::longest::refuse_longer;
-use imago_images::opening::Opening;
+use imago_images::opening::{Opening, OtherFiles};
+use imago_storage::storage::Storage;
 use imago_vmdk::descriptor::{self, Descriptor};
 use imago_vmdk::line::Extent;
 use std::alloc::Global;
@@ -58,24 +67,43 @@ pub fn info<H: Host, W: Write, E: Write>(
     asked: Asked,
     output: &mut W,
     warnings: &mut E,
+) -> Result<(), Failure>
+    ensures { OnOk result (IfSome (H.contents host.now)
+        (λ files. IsDescribed how path.now (files path.now))) }
+{
+    let file = look_at(host, path)?;
+    let report = report_on(host, path, &file, how)?;
+    let path = String::from_str(host.alloc(), path)?;
+    let first = Step { path, file, how };
+    tell_images(host, first, report, asked, output, warnings)?;
+    Ok(())
+}
+
+/// Tells what an image is, or each image of its chain: of the first one, that.
+fn tell_images<H: Host, W: Write, E: Write>(
+    host: &H,
+    first: Step<PathStorage<'_, H>>,
+    report: Report,
+    asked: Asked,
+    output: &mut W,
+    warnings: &mut E,
 ) -> Result<(), Failure> {
-    let first = first_step(host, path, how)?;
     if asked.chain {
-        return tell_chain(host, first, asked.json, output, warnings);
+        return tell_chain(host, first, report, asked.json, output, warnings);
     }
-    let report = report_on(host, &first.path, &first.file, how)?;
     warn(&report, warnings);
-    tell(host, path, &report, asked.json, output).map_err(Failure::Output)?;
+    tell(host, &first.path, &report, asked.json, output).map_err(Failure::Output)?;
     if asked.json {
         writeln!(output).map_err(Failure::Output)?;
     }
     Ok(())
 }
 
-/// Tells what each image of a chain is.
+/// Tells what each image of a chain is: of the first one, that.
 fn tell_chain<H: Host, W: Write, E: Write>(
     host: &H,
     first: Step<PathStorage<'_, H>>,
+    report: Report,
     json: bool,
     output: &mut W,
     warnings: &mut E,
@@ -83,13 +111,14 @@ fn tell_chain<H: Host, W: Write, E: Write>(
     let image = String::from_str(host.alloc(), &first.path)?;
     let mut above = Above::new(host.alloc());
     let mut step = first;
+    let mut known = Some(report);
     let (mut start, between, end) = if json {
         ("[\n", ",\n", "\n]\n")
     } else {
         ("", "\n", "")
     };
     for _depth in 0..LONGEST_CHAIN {
-        let report = report_on_step(host, &image, &step, &mut above)?;
+        let report = report_on_step(host, &image, &step, &mut above, known.take())?;
         warn(&report, warnings);
         write!(output, "{start}").map_err(Failure::Output)?;
         tell(host, &step.path, &report, json, output).map_err(Failure::Output)?;
@@ -104,16 +133,20 @@ fn tell_chain<H: Host, W: Write, E: Write>(
     Failure::or_opened(host.alloc(), &image, refused)
 }
 
-/// Looks at the next image of the chain that begins at the path `image`, and refuses one that is
-/// above itself.
+/// Looks at the next image of the chain that begins at the path `image`, unless it is known what it
+/// is, and refuses one that is above itself.
 fn report_on_step<H: Host>(
     host: &H,
     image: &str,
     step: &Step<PathStorage<'_, H>>,
     above: &mut Above,
+    known: Option<Report>,
 ) -> Result<Report, Failure> {
     let entered = above.enter(host.alloc(), &step.path, &step.file);
     Failure::or_opened(host.alloc(), image, entered)?;
+    if let Some(report) = known {
+        return Ok(report);
+    }
     let reported = report_on(host, &step.path, &step.file, step.how);
     Failure::or_needed(host.alloc(), image, reported)
 }
@@ -129,48 +162,125 @@ impl Report {
 }
 
 /// Looks at an image, and for the files of its extents.
-fn report_on<H: Host>(
+fn report_on<'a, H: Host>(
     host: &H,
     path: &str,
-    file: &PathStorage<'_, H>,
+    file: &PathStorage<'a, H>,
     how: Opening,
-) -> Result<Report, Failure> {
+) -> Result<Report, Failure>
+    ensures { (bytes : List ℕ) → HasBytes ⟦<PathStorage<'a, H> as Storage>⟧.features
+        ⟦<PathStorage<'a, H> as Storage>⟧.bytes bytes file.now
+        → OnOk result (IsDescribed how path.now bytes) }
+{
     refuse_another(host.alloc(), path, file, how.format, how.other_files)?;
     let format = format_of(host.alloc(), path, file, how.format)?;
     refuse_longer(host.alloc(), path, file, format, how)?;
-    let mut report = Report {
-        format,
-        size: file.file().status().length,
-        on_disk: host.size_on_disk(path),
-        extents: Vec::new(host.alloc()),
-        qcow2: None,
-    };
-    match format {
-        ImageFormat::Raw => {}
-        ImageFormat::Vmdk => {
-            let described = describe(host, path, file, how)?;
-            report.size = described.size;
-            report.extents = found_extents(host, path, described.extents, how)?;
-        }
-        ImageFormat::Qcow2 => {
-            let found = report_on_qcow2(host, path, file, how.other_files)?;
-            report.size = found.header.disk_size();
-            report.qcow2 = Some(found);
-        }
-    }
+    let report = report_as(host, path, file, format, how)?;
     Ok(report)
 }
 
-/// What a descriptor says.
-fn describe<H: Host>(
+/// The same of one of that format.
+fn report_as<'a, H: Host>(
     host: &H,
     path: &str,
-    file: &PathStorage<'_, H>,
+    file: &PathStorage<'a, H>,
+    format: ImageFormat,
     how: Opening,
-) -> Result<Descriptor, Failure> {
+) -> Result<Report, Failure>
+    ensures { (bytes : List ℕ) → HasBytes ⟦<PathStorage<'a, H> as Storage>⟧.features
+        ⟦<PathStorage<'a, H> as Storage>⟧.bytes bytes file.now
+        → OnOk result (how.other_files ≡ Others.None → NamesNothing how.accepted bytes format) }
+{
+    let on_disk = host.size_on_disk(path);
+    match format {
+        ImageFormat::Raw => Ok(Report {
+            format,
+            size: file.file().status().length,
+            on_disk,
+            extents: Vec::new(host.alloc()),
+            qcow2: None,
+        }),
+        ImageFormat::Vmdk => {
+            let described = describe(host, path, file, how)?;
+            refuse_files(host.alloc(), path, &described.extents, how.other_files)?;
+            Ok(Report {
+                format,
+                size: described.size,
+                on_disk,
+                extents: found_extents(host, path, described.extents, how)?,
+                qcow2: None,
+            })
+        }
+        ImageFormat::Qcow2 => {
+            let found = report_on_qcow2(host, path, file, how.other_files)?;
+            Ok(Report {
+                format,
+                size: found.header.disk_size(),
+                on_disk,
+                extents: Vec::new(host.alloc()),
+                qcow2: Some(found),
+            })
+        }
+    }
+}
+
+/// What a descriptor says.
+fn describe<'a, H: Host>(
+    host: &H,
+    path: &str,
+    file: &PathStorage<'a, H>,
+    how: Opening,
+) -> Result<Descriptor, Failure>
+    ensures { (bytes : List ℕ) → HasBytes ⟦<PathStorage<'a, H> as Storage>⟧.features
+        ⟦<PathStorage<'a, H> as Storage>⟧.bytes bytes file.now
+        → IfOk result (λ d. reading_of how.accepted bytes
+        ≡ Ok (map (extent_with string_bytes) d.extents.items, d.size)) }
+{
     let text = descriptor_text(host.alloc(), path, file)?;
-    let said = descriptor::read(host.alloc(), how.accepted, &text);
-    Failure::or_image(host.alloc(), path, said)
+    match descriptor::read(host.alloc(), how.accepted, &text) {
+        Ok(described) => Ok(described),
+        Err(cause) => Err(Failure::of_file(host.alloc(), path, Reason::Image(cause))),
+    }
+}
+
+/// Refuses extents of which one stands in a file, where no other files are opened: as the gate does
+/// that lets none through, and before it.
+fn refuse_files(
+    alloc: Global,
+    path: &str,
+    extents: &[Extent<String>],
+    others: OtherFiles,
+) -> Result<(), Failure>
+    ensures { OnOk result (others ≡ Others.None
+        → HaveNoFiles (map (extent_with string_bytes) extents.now)) }
+{
+    match others {
+        OtherFiles::None => refuse_any_file(alloc, path, extents),
+        OtherFiles::InFolder | OtherFiles::Any => Ok(()),
+    }
+}
+
+/// Refuses extents of which one stands in a file.
+fn refuse_any_file(alloc: Global, path: &str, extents: &[Extent<String>]) -> Result<(), Failure>
+    ensures { OnOk result (HaveNoFiles (map (extent_with string_bytes) extents.now)) }
+{
+    let mut rest = extents;
+    while let Some((extent, behind)) = rest.split_first() {
+        rest = behind;
+        refuse_file(alloc, path, extent)?;
+    }
+    Ok(())
+}
+
+/// Refuses an extent that stands in a file.
+fn refuse_file(alloc: Global, path: &str, extent: &Extent<String>) -> Result<(), Failure>
+    ensures { OnOk result (HasNoFile (extent_with string_bytes extent.now)) }
+{
+    let Extent::Flat { name, .. } = extent else {
+        return Ok(());
+    };
+    let named = path_beside(alloc, path, name)?;
+    Err(Failure::of_file(alloc, path, Reason::NotPermitted(named)))
 }
 
 /// The extents of a descriptor, and what is found under their names.

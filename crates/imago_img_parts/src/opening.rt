@@ -30,8 +30,6 @@ pub fn how_to_open(format: Option<Format>, said: Said) -> Opening
         other_files: other_files(said.alone, said.allow_outside),
         tables: Some(said.tables.unwrap_or(MOST_MEMORY)),
         longest: said.max_size,
-        // No command writes to an image.
-        writable: false,
     }
 }
 

@@ -1,13 +1,26 @@
 // SPDX-License-Identifier: MIT
 //! What a qcow2 file is, by its header, the names that stand in its first cluster, and its table of
 //! snapshots. No L1 and no L2 table is read.
+ghost use Rattle.std.specs.Prelude.{◌≡◌, ℕ, ◌<◌, ◌≤◌, List, None, false, IfOk, OnOk, IsTrue};
+ghost use Rattle.std.specs.Prelude.{length, slice_index};
+ghost use Rattle.imago_storage.specs.Bytes.{IsReadAt};
+ghost use Rattle.imago_qcow2.specs.Header.{features_at, has_bit};
+ghost use Rattle.imago_qcow2.specs.Qcow2Image.{storage_in};
+ghost use Rattle.imago_images.specs.declared.opening.OtherFiles.TheVariants as Others;
+ghost use Rattle.imago_images.specs.HostBytes.{HasBytes};
+ghost use Rattle.imago_images.specs.Layers.{SaysBacking};
+ghost use Rattle.imago_img_parts.specs.Described.{NamesNoFile};
 
 use crate::chain::{NamedBelow, full_path};
+use crate::extension::data_name;
 use crate::failure::{Failure, OpenError, Reason, SnapshotFault};
 use crate::host::Host;
 use crate::json::quoted;
+use crate::looked::unread;
 use crate::sizes::Size;
 use crate::snapshots::{Snapshot, SnapshotTable, read_snapshots};
+use imago_file::file::FileStorage;
+use imago_file::host::HostFile;
 use imago_images::alone::refuse_below;
 use imago_images::file::PathStorage;
 use imago_images::layer::{text_of, told_by_host};
@@ -21,7 +34,7 @@ use imago_storage::error::Error;
 use imago_storage::ext::StorageExt;
 use imago_storage::mem::MemStorage;
 use imago_storage::storage::Storage;
-use std::alloc::Global;
+use std::alloc::{AllocError, Global};
 use std::fmt::Display;
 use std::io::{self, Write};
 
@@ -34,6 +47,8 @@ pub struct Qcow2Report {
     /// How many bits a reference count has.
     refcount_bits: u32,
     below: NamesBelow,
+    /// Where the data stand in a file of their own.
+    data_file: DataFile,
     snapshots: Vec<Snapshot>,
 }
 
@@ -82,6 +97,17 @@ struct NamesBelow {
     format: Option<String>,
 }
 
+/// What a file says of the one in which its data stand.
+#[derive(Drop)]
+struct DataFile {
+    /// Its name, which some files have that have their data themselves.
+    name: Option<String>,
+    /// Whether the data stand there.
+    is_used: bool,
+    /// Whether it is also a raw image of the disk.
+    is_raw: bool,
+}
+
 impl Qcow2Report {
     /// What the image says of the one below it, if there is one.
     pub fn named_below(&self) -> Option<NamedBelow<'_>> {
@@ -103,7 +129,10 @@ struct Head {
 }
 
 /// Puts bytes over others from an offset on, if all of them are there.
-pub fn put(bytes: &mut [u8], at: usize, source: &[u8]) {
+pub fn put(bytes: &mut [u8], at: usize, source: &[u8])
+    ensures before { (i : ℕ) → i < at
+        → slice_index bytes.new i ≡ slice_index bytes.old i }
+{
     if at > bytes.len() || bytes.len() - at < source.len() {
         return;
     }
@@ -140,6 +169,19 @@ fn head_of(mut bytes: [u8; HEAD_LENGTH], file: u64) -> Result<Head, HeaderFault>
     })
 }
 
+/// Whether a file that begins so says that its data stand in a file of their own. Only those of
+/// version 3 can.
+#[tactic(auto, unfolding(imago_qcow2::specs::Header::features_at, imago_qcow2::specs::Header::has_bit))]
+fn has_data_file(head: &[u8]) -> bool
+    requires { 112 ≤ length head.now }
+    ensures { result ≡ has_bit (features_at head.now 72) 2 }
+{
+    if number32(head, 4) < 3 {
+        return false;
+    }
+    number64(head, 72) / 4 % 2 == 1
+}
+
 /// A name that stands in a file, if it does. One without bytes is none.
 fn named(alloc: Global, path: &str, name: Option<Vec<u8>>) -> Result<Option<String>, OpenError> {
     match name {
@@ -148,18 +190,40 @@ fn named(alloc: Global, path: &str, name: Option<Vec<u8>>) -> Result<Option<Stri
     }
 }
 
-/// The first cluster of a file as an image of its own: its disk has no bytes, and needs no table.
-fn first_cluster<S: Storage>(
+/// How many bytes a cluster has at least.
+const SHORTEST_CLUSTER: u64 = 512;
+
+/// The first cluster of a file.
+fn first_cluster<F: HostFile>(
     alloc: Global,
-    file: &S,
+    path: &str,
+    file: &FileStorage<F>,
     head: &Head,
-) -> Result<Qcow2<MemStorage>, Error> {
-    let mut bytes = vec![in alloc; 0u8; head.header.cluster_size() as usize]?;
-    file.read(alloc, &mut bytes, 0)?;
-    let mut first = head.bytes;
-    put(&mut first, 24, &[0; 8]);
-    put(&mut first, 36, &[0; 12]);
-    put(&mut bytes, 0, &first);
+) -> Result<Vec<u8>, OpenError>
+    ensures read { (bytes : List ℕ) → HasBytes ⟦<FileStorage<F> as Storage>⟧.features
+        ⟦<FileStorage<F> as Storage>⟧.bytes bytes file.now
+        → IfOk result (λ v. IsReadAt bytes 0 v.items) }
+    ensures len { IfOk result (λ v. 512 ≤ length v.items) }
+{
+    let count = head.header.cluster_size().max(SHORTEST_CLUSTER);
+    let mut bytes = vec![in alloc; 0u8; count as usize]?;
+    match file.read(alloc, &mut bytes, 0) {
+        Ok(()) => Ok(bytes),
+        Err(cause) => Err(unread(alloc, path, file, cause)),
+    }
+}
+
+/// The first cluster of a file as an image of its own, which isn't encrypted and has these features
+/// alone: its disk has no bytes, and needs no table.
+fn alone_image(alloc: Global, mut bytes: Vec<u8>, features: u64) -> Result<Qcow2<MemStorage>, Error>
+    ensures tells { IfOk result (λ d.
+        IsTrue (⟦<MemStorage as Storage>⟧.features (storage_in d)).tells_bytes) }
+    ensures first { IfOk result (λ d. (i : ℕ) → i < 24
+        → slice_index (⟦<MemStorage as Storage>⟧.bytes (storage_in d)) i
+        ≡ slice_index bytes.items i) }
+{
+    put(&mut bytes, 24, &[0; 24]);
+    put(&mut bytes, 72, &features.to_be_bytes());
     Qcow2::open_image(alloc, MemStorage::new(bytes), false)
 }
 
@@ -167,25 +231,31 @@ fn first_cluster<S: Storage>(
 fn refuse_data_file(
     alloc: Global,
     path: &str,
-    head: &Head,
+    is_used: bool,
     others: OtherFiles,
-) -> Result<(), OpenError> {
-    if others != OtherFiles::None || !head.unsupported.has(EXTERNAL_DATA) {
+) -> Result<(), OpenError>
+    ensures { OnOk result (others ≡ Others.None → is_used ≡ false) }
+{
+    if others != OtherFiles::None || !is_used {
         return Ok(());
     }
     let fault = HeaderFault::Features(1 << EXTERNAL_DATA);
     Err(OpenError::of_file(alloc, path, Reason::Header(fault)))
 }
 
-/// What a file says of the one below it. Where no other files are opened, it may name none.
-fn names_below<S: Storage>(
+/// What a file with that first cluster says of the one below it. Where no other files are opened,
+/// it may name none.
+fn names_below(
     alloc: Global,
     path: &str,
-    file: &S,
+    cluster: Vec<u8>,
     head: &Head,
     others: OtherFiles,
-) -> Result<NamesBelow, OpenError> {
-    let first = OpenError::or_image(alloc, path, first_cluster(alloc, file, head))?;
+) -> Result<NamesBelow, OpenError>
+    ensures { OnOk result (others ≡ Others.None → SaysBacking cluster.items None) }
+{
+    let features = number64(&head.bytes, 72);
+    let first = OpenError::or_image(alloc, path, alone_image(alloc, cluster, features))?;
     refuse_below(alloc, path, &first, others)?;
     let name = OpenError::or_image(alloc, path, first.backing_file(alloc))?;
     let format = OpenError::or_image(alloc, path, first.backing_format(alloc))?;
@@ -198,6 +268,54 @@ fn names_below<S: Storage>(
         name,
         format: named(alloc, path, format)?,
     })
+}
+
+/// What a file with that first cluster says of the one in which its data stand. Only those of
+/// version 3 do. A name that isn't UTF-8 isn't told.
+fn data_file_of(
+    alloc: Global,
+    cluster: &[u8],
+    head: &Head,
+    is_used: bool,
+) -> Result<DataFile, AllocError> {
+    let name = match data_name(cluster, &head.bytes) {
+        Some((_, name)) if head.header.version() >= 3 => text_if_any(alloc, name)?,
+        _ => None,
+    };
+    Ok(DataFile {
+        name,
+        is_used,
+        is_raw: head.header.has_raw_external_data(),
+    })
+}
+
+/// The other files that a file names: the one below it, and the one in which its data stand. Where
+/// no other files are opened, it may name none.
+fn names_in<F: HostFile>(
+    alloc: Global,
+    path: &str,
+    file: &FileStorage<F>,
+    head: &Head,
+    others: OtherFiles,
+) -> Result<(NamesBelow, DataFile), OpenError>
+    ensures { (bytes : List ℕ) → HasBytes ⟦<FileStorage<F> as Storage>⟧.features
+        ⟦<FileStorage<F> as Storage>⟧.bytes bytes file.now
+        → OnOk result (others ≡ Others.None → NamesNoFile bytes) }
+{
+    let cluster = first_cluster(alloc, path, file, head)?;
+    let is_used = has_data_file(&cluster);
+    refuse_data_file(alloc, path, is_used, others)?;
+    let data_file = data_file_of(alloc, &cluster, head, is_used)?;
+    let below = names_below(alloc, path, cluster, head, others)?;
+    Ok((below, data_file))
+}
+
+/// The text of a name, if it is one.
+fn text_if_any(alloc: Global, name: &[u8]) -> Result<Option<String>, AllocError> {
+    match str::from_utf8(name) {
+        Ok(text) => Ok(Some(String::from_str(alloc, text)?)),
+        Err(_) => Ok(None),
+    }
 }
 
 /// The path that a name stands for which the file of that path has, if it is a file's.
@@ -245,18 +363,20 @@ fn snapshots_of<S: Storage>(
 
 /// Tells what a qcow2 file is, what it says of the one below it, and its snapshots. Where no other
 /// files are opened, it may name none.
-pub fn report_on_qcow2<H: Host>(
+pub fn report_on_qcow2<'a, H: Host>(
     host: &H,
     path: &str,
-    file: &PathStorage<'_, H>,
+    file: &PathStorage<'a, H>,
     others: OtherFiles,
-) -> Result<Qcow2Report, Failure> {
+) -> Result<Qcow2Report, Failure>
+    ensures { (bytes : List ℕ) → HasBytes ⟦<PathStorage<'a, H> as Storage>⟧.features
+        ⟦<PathStorage<'a, H> as Storage>⟧.bytes bytes file.now
+        → OnOk result (others ≡ Others.None → NamesNoFile bytes) }
+{
     let alloc = host.alloc();
     let read = read_head(alloc, path, file);
     let (head, length) = told_by_host(alloc, path, file, read)?;
-    refuse_data_file(alloc, path, &head, others)?;
-    let read = names_below(alloc, path, file, &head, others);
-    let below = told_by_host(alloc, path, file, read)?;
+    let (below, data_file) = names_in(alloc, path, file, &head, others)?;
     let snapshots = match snapshots_of(alloc, file, &head, length) {
         Ok(snapshots) => snapshots,
         Err(SnapshotFault::Storage(cause)) => {
@@ -270,6 +390,7 @@ pub fn report_on_qcow2<H: Host>(
         unsupported: head.unsupported,
         refcount_bits: refcount_bits(&head),
         below,
+        data_file,
         snapshots,
     })
 }
@@ -304,6 +425,7 @@ pub fn print_qcow2<W: Write>(report: &Qcow2Report, output: &mut W) -> io::Result
         )?;
     }
     writeln!(output, "    refcount bits: {}", report.refcount_bits)?;
+    print_data_file(&report.data_file, output)?;
     if header.version() >= 3 {
         let unsupported = report.unsupported;
         writeln!(output, "    corrupt: {}", unsupported.has(CORRUPT))?;
@@ -316,13 +438,21 @@ pub fn print_qcow2<W: Write>(report: &Qcow2Report, output: &mut W) -> io::Result
     if header.has_bitmaps() {
         writeln!(output, "    bitmaps: valid")?;
     }
-    if header.has_raw_external_data() {
-        writeln!(output, "    data file raw: true")?;
-    }
     if header.is_dirty() {
         writeln!(output, "cleanly shut down: no")?;
     }
     print_unsupported(report.unsupported, output)
+}
+
+/// Prints what is said of the file in which the data stand as lines.
+fn print_data_file<W: Write>(data_file: &DataFile, output: &mut W) -> io::Result<()> {
+    if let Some(name) = &data_file.name {
+        writeln!(output, "    data file: {name:?}")?;
+    }
+    if data_file.is_used {
+        writeln!(output, "    data file raw: {}", data_file.is_raw)?;
+    }
+    Ok(())
 }
 
 /// Prints why an image can't be opened, each reason in a line.
@@ -395,11 +525,27 @@ pub fn print_qcow2_json<W: Write>(
         compression(header),
         report.refcount_bits
     )?;
+    print_data_file_json(alloc, &report.data_file, output)?;
     if header.version() >= 3 {
         print_features_json(report, output)?;
     }
     write!(output, " }} }}")?;
     print_unsupported_json(alloc, report.unsupported, output)
+}
+
+/// Prints what is said of the file in which the data stand as members of a JSON object.
+fn print_data_file_json<W: Write>(
+    alloc: Global,
+    data_file: &DataFile,
+    output: &mut W,
+) -> io::Result<()> {
+    if let Some(name) = &data_file.name {
+        write!(output, ", \"data-file\": {}", quoted(alloc, name)?)?;
+    }
+    if data_file.is_used {
+        write!(output, ", \"data-file-raw\": {}", data_file.is_raw)?;
+    }
+    Ok(())
 }
 
 /// Prints the features of version 3 as members of a JSON object.

@@ -15,6 +15,7 @@ ghost use Rattle.imago_img_parts.specs.Commands.{IsCreated, IsNewlyConverted, Is
 ghost use Rattle.imago_img_parts.specs.Commands.{outcome_status, outcome_when, refused_status};
 ghost use Rattle.imago_img_parts.specs.Commands.{check_status, untold, vet_status};
 ghost use Rattle.imago_img_parts.specs.Vetted.{IsVetted};
+ghost use Rattle.imago_img_parts.specs.Described.{IsDescribed};
 ghost use Rattle.imago_img_parts.specs.Disks.{is_left_out};
 ghost use Rattle.imago_img_parts.specs.NewFiles.{format_by};
 ghost use Rattle.imago_img_parts.specs.Openings.{how_by, image_format};
@@ -421,7 +422,10 @@ fn describe<H: Host, W: Write, E: Write>(
     output: &mut W,
     errors: &mut E,
 ) -> Result<Outcome, Failure>
-    ensures { IfOk result (λ outcome. outcome ≡ Fine) }
+    ensures { IfOk result (λ outcome. (outcome ≡ Fine)
+        × IfSome (H.contents host.now) (λ files.
+        IsDescribed (how_by asked.entry.format asked.entry.opening) asked.entry.file.now
+        (files asked.entry.file.now))) }
 {
     let how = how_to_open(asked.format, asked.opening);
     info(

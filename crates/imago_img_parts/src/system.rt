@@ -327,13 +327,6 @@ impl<'a> Files for System<'a> {
         Ok(one.dev() == other.dev() && one.ino() == other.ino())
     }
 
-    fn open_to_write(&self, path: &str) -> io::Result<File> {
-        OpenOptions::new()
-            .read(true)
-            .write(true)
-            .open(self.runtime, path)
-    }
-
     fn real_path(&self, path: &str) -> io::Result<String> {
         Ok(fs::canonicalize(self.runtime, path)?.into_string())
     }

@@ -7,6 +7,7 @@ ghost use Rattle.imago_images.specs.HostBytes.{HasBytes};
 ghost use Rattle.imago_images.specs.Longest.{IsNoLonger};
 ghost use Rattle.imago_images.specs.Signatures.{signature_of};
 ghost use Rattle.imago_img_parts.specs.Vetted.{IsSafeAs, IsVetted, VettedOpens};
+ghost use Rattle.imago_img_parts.specs.Vetted.{VettedIsSeen};
 ghost use Rattle.imago_img_parts.specs.VettedParts.{IsTold};
 
 use crate::failure::{Failure, OpenError, Reason};
@@ -15,7 +16,8 @@ use crate::host::Host;
 use crate::json::quoted;
 use crate::looked::try_file;
 use crate::vet_qcow2::vet_qcow2;
-use crate::vet_vmdk::vet_vmdk;
+use crate::vet_seen::vet_seen;
+use crate::vet_vmdk::tell_vmdk;
 use imago_file::file::FileStorage;
 use imago_file::host::HostFile;
 use imago_images::alone::refuse_another;
@@ -33,10 +35,11 @@ use std::io::{self, Write};
 /// Tells whether a file from a stranger is safe to hand on, and prints what it is and each reason
 /// against it. No other file is asked for, whatever the opening says.
 ///
-/// It is safe if its opening by itself isn't refused, but by the host or for memory, and no cluster
-/// of its disk can be refused but one whose compressed stream is faulty: no stream is decoded. Of a
-/// qcow2 file, the L1 table and one L2 table at a time are held, of 34 MiB at most. Its L2 tables are
-/// read as often as they are named, which is limited by their sum.
+/// It is safe if it is a raw disk or a qcow2 image, QEMU takes it for the same, its opening by
+/// itself isn't refused, but by the host or for memory, and no cluster of its disk can be refused
+/// but one whose compressed stream is faulty: no stream is decoded. Of a qcow2 file, the L1 table
+/// and one L2 table at a time are held, of 34 MiB at most. Its L2 tables are read as often as they
+/// are named, which is limited by their sum.
 pub fn vet<H: Host, W: Write>(
     host: &H,
     path: &str,
@@ -67,6 +70,13 @@ pub fn vetted_opens()
     ensures { VettedOpens }
 {}
 
+/// What is safe to hand on is what QEMU takes it for: a file for which [`vet`] answers so has the
+/// same format for QEMU 7.2, if that isn't told one, under the same path. This is a law of what is
+/// meant by these words, and nothing is done.
+pub fn vetted_is_seen()
+    ensures { VettedIsSeen }
+{}
+
 /// Whether a file that was looked at is safe. All that speaks against it is told.
 fn vet_file<F: HostFile>(
     alloc: Global,
@@ -87,6 +97,10 @@ fn vet_file<F: HostFile>(
     let short = is_short(alloc, path, file, format, how, told)?;
     let safe = is_safe_as(alloc, path, file, format, how, told)?;
     if !one {
+        return Ok(false);
+    }
+    let seen = vet_seen(alloc, path, file, format, told)?;
+    if !seen {
         return Ok(false);
     }
     if !short {
@@ -196,7 +210,10 @@ fn is_safe_as<F: HostFile>(
             told.disk = Some(told.length);
             Ok(true)
         }
-        ImageFormat::Vmdk => vet_vmdk(alloc, path, file, how.accepted, told),
+        ImageFormat::Vmdk => {
+            tell_vmdk(alloc, path, file, how.accepted, told)?;
+            Ok(false)
+        }
         ImageFormat::Qcow2 => vet_qcow2(alloc, path, file, how, told),
     }
 }

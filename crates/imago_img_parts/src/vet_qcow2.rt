@@ -8,6 +8,7 @@ ghost use Rattle.imago_storage.specs.Bytes.{IsReadAt};
 ghost use Rattle.imago_qcow2.specs.Header.{header_of, IsSound};
 ghost use Rattle.imago_img_parts.specs.Vetted.{AreSafeTables, IsSafeQcow2};
 
+use crate::extension::data_name;
 use crate::failure::{Failure, Reason};
 use crate::finding::{CORRUPT, Fault, Findings, LONGEST_SHOWN, Told};
 use crate::looked::unread;
@@ -27,9 +28,6 @@ use std::alloc::Global;
 
 /// The incompatible feature that data stand in a file of their own.
 const DATA_FILE: u64 = 1 << 2;
-
-/// The type of the header extension that has the name of that file.
-const DATA_NAME: u32 = 0x4441_5441;
 
 /// How many bytes the name of a backing file has at most.
 const LONGEST_NAME: u32 = 1023;
@@ -103,28 +101,6 @@ fn add_header(fault: HeaderFault, findings: &mut Findings) -> Result<(), Error> 
     Ok(())
 }
 
-/// The header extension of that type: where its contents begin, and how many bytes they are. The
-/// extensions stand from an offset of the first cluster on.
-fn find_extension(cluster: &[u8], kind: u32, start: usize) -> Option<(usize, usize)> {
-    let mut at = start;
-    for _step in 0..cluster.len() / 8 {
-        if at >= cluster.len() || cluster.len() - at < 8 {
-            return None;
-        }
-        let found = number32(cluster, at);
-        let count = number32(cluster, at + 4) as usize;
-        let begin = at + 8;
-        if found == 0 || cluster.len() - begin < count {
-            return None;
-        }
-        if found == kind {
-            return Some((begin, count));
-        }
-        at = begin + count.div_ceil(8).saturating_mul(8);
-    }
-    None
-}
-
 /// The external data file of an image whose header begins so, and where its name stands.
 fn data_named<S: Storage>(
     storage: &S,
@@ -137,22 +113,15 @@ fn data_named<S: Storage>(
     }
     let mut cluster = vec![in alloc; 0u8; 1usize << bits]?;
     storage.read(alloc, &mut cluster, 0)?;
-    let start = number32(head.as_slice(), 100) as usize;
-    let Some((begin, count)) = find_extension(&cluster, DATA_NAME, start) else {
+    let Some((begin, name)) = data_name(&cluster, head) else {
         return Ok((Fault::DataUnnamed, 72));
     };
-    match str::from_utf8(slice_of(&cluster, begin, count)) {
+    match str::from_utf8(name) {
         Ok(name) if name.len() <= LONGEST_SHOWN => {
             Ok((Fault::Data(String::from_str(alloc, name)?), begin as u64))
         }
         _ => Ok((Fault::DataUnnamed, begin as u64)),
     }
-}
-
-/// So many bytes from an offset on, as far as they are there.
-fn slice_of(bytes: &[u8], at: usize, count: usize) -> &[u8] {
-    let rest = &bytes[at.min(bytes.len())..];
-    &rest[..count.min(rest.len())]
 }
 
 /// Tells each of the features that aren't supported.

@@ -6,8 +6,10 @@ ghost use Rattle.std.specs.String.{string_bytes};
 ghost use Rattle.imago_plan.specs.PieceBytes.{bytes_at};
 ghost use Rattle.imago_img_tests.specs.MemoryFiles.{files_without, unfinished_path};
 
+use crate::asked::{Asked, Call};
 use imago_copy::target::Target;
 use imago_file::host::MemoryFile as OpenFile;
+use imago_images::files::WritableFiles;
 use imago_img_parts::host::{FileKind, FileStatus, Files, Host, LeftOver, Making};
 use std::alloc::{AllocError, Global};
 use std::cell::Cell;
@@ -68,6 +70,7 @@ pub struct MemoryHost {
     unfinished: u64,
     /// How much of a copy was shown to be done.
     shown: Cell<u64>,
+    asked: Asked,
 }
 
 /// A new file in memory.
@@ -100,11 +103,23 @@ impl MemoryHost {
             finishes,
             unfinished: 0,
             shown: Cell::new(0),
+            asked: Asked::new(alloc),
         }
+    }
+
+    /// Which calls were made for which paths.
+    pub fn asked(&self) -> &Asked {
+        &self.asked
+    }
+
+    /// Counts the calls for a path by themselves from now on.
+    pub fn follow(&mut self, path: &str) -> Result<(), AllocError> {
+        self.asked.follow(self.alloc, path)
     }
 
     /// Adds a file.
     pub fn add(&mut self, path: &str, bytes: &[u8], nature: Nature) -> Result<(), AllocError> {
+        self.follow(path)?;
         let mut kept = Vec::new(self.alloc);
         kept.extend_from_slice(bytes)?;
         let path = String::from_str(self.alloc, path)?;
@@ -277,6 +292,7 @@ impl Files for MemoryHost {
     }
 
     fn status(&self, path: &str) -> io::Result<FileStatus> {
+        self.asked.note(Call::Look, path);
         let file = self.file(path)?;
         Ok(FileStatus {
             kind: file.nature.kind(),
@@ -287,6 +303,7 @@ impl Files for MemoryHost {
     }
 
     fn read_at(&self, path: &str, buf: &mut [u8], offset: u64) -> io::Result<()> {
+        self.asked.note(Call::Read, path);
         let file = self.file(path)?;
         if is_barred(file.nature, offset, buf.len()) {
             return Err(io::Error::from(ErrorKind::PermissionDenied));
@@ -297,19 +314,15 @@ impl Files for MemoryHost {
 
     // The files of two paths are one where they have the same number, and the same bytes.
     fn is_same_file(&self, one: &str, other: &str) -> io::Result<bool> {
+        self.asked.note(Call::Look, one);
+        self.asked.note(Call::Look, other);
         let one = self.file(one)?;
         let other = self.file(other)?;
         Ok(one.inode == other.inode && one.bytes == other.bytes)
     }
 
-    fn open_to_write(&self, path: &str) -> io::Result<OpenFile> {
-        let file = self.file(path)?;
-        let mut bytes = Vec::new(self.alloc);
-        bytes.extend_from_slice(&file.bytes)?;
-        Ok(OpenFile::new(bytes))
-    }
-
     fn real_path(&self, path: &str) -> io::Result<String> {
+        self.asked.note(Call::Look, path);
         if path == "." {
             return Ok(String::from_str(self.alloc, "/images")?);
         }
@@ -317,6 +330,17 @@ impl Files for MemoryHost {
             Nature::Link(to) => Ok(String::from_str(self.alloc, to)?),
             _ => Ok(format!(in self.alloc; "/images/{path}")?),
         }
+    }
+}
+
+/// What is written to an open file doesn't reach the host's own.
+impl WritableFiles for MemoryHost {
+    fn open_to_write(&mut self, path: &str) -> io::Result<OpenFile> {
+        self.asked.note(Call::Write, path);
+        let file = self.file(path)?;
+        let mut bytes = Vec::new(self.alloc);
+        bytes.extend_from_slice(&file.bytes)?;
+        Ok(OpenFile::new(bytes))
     }
 }
 
@@ -334,6 +358,7 @@ impl Host for MemoryHost {
     }) };
 
     fn run_at(&self, path: &str, offset: u64, most: u64) -> (u64, bool) {
+        self.asked.note(Call::Look, path);
         let Some(bytes) = self.bytes(path) else {
             return (most, true);
         };
@@ -345,6 +370,7 @@ impl Host for MemoryHost {
     }
 
     fn size_on_disk(&self, path: &str) -> Option<u64> {
+        self.asked.note(Call::Look, path);
         let file = self.file(path).ok()?;
         Some(file.bytes.len() as u64)
     }
@@ -364,6 +390,7 @@ impl Host for MemoryHost {
     }
 
     fn remove_left_over(&mut self, path: &str) -> io::Result<()> {
+        self.asked.note(Call::Write, path);
         let left = unfinished_path(self.alloc, path)?;
         if self.file(&left).is_err() {
             return Err(io::Error::from(ErrorKind::NotFound));
@@ -373,6 +400,7 @@ impl Host for MemoryHost {
     }
 
     fn create(&mut self, path: &str, size: u64, how: Making) -> io::Result<MemoryTarget> {
+        self.asked.note(Call::Write, path);
         let replaces = self.file(path).is_ok();
         if replaces && !how.replace || self.left_over(path)?.is_some() {
             return Err(io::Error::from(ErrorKind::AlreadyExists));
@@ -415,7 +443,8 @@ impl Host for MemoryHost {
         self.unfinished = self.unfinished.saturating_sub(1);
     }
 
-    fn open_existing(&mut self, _path: &str) -> io::Result<MemoryExisting> {
+    fn open_existing(&mut self, path: &str) -> io::Result<MemoryExisting> {
+        self.asked.note(Call::Write, path);
         Err(io::Error::from(ErrorKind::Unsupported))
     }
 
@@ -423,7 +452,8 @@ impl Host for MemoryHost {
         let _ = target;
     }
 
-    fn set_length(&mut self, _path: &str, _length: u64) -> io::Result<()> {
+    fn set_length(&mut self, path: &str, _length: u64) -> io::Result<()> {
+        self.asked.note(Call::Write, path);
         Err(io::Error::from(ErrorKind::Unsupported))
     }
 }

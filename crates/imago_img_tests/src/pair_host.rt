@@ -139,10 +139,6 @@ impl Files for PairHost {
         Ok(one == other)
     }
 
-    fn open_to_write(&self, _path: &str) -> io::Result<OpenFile> {
-        Err(io::Error::from(ErrorKind::Unsupported))
-    }
-
     fn real_path(&self, path: &str) -> io::Result<String> {
         Ok(String::from_str(self.alloc, path)?)
     }

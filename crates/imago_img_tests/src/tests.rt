@@ -2,6 +2,7 @@
 //! Command lines over files in memory: what each prints, its status, and the file that it makes.
 
 mod alone;
+mod asked;
 mod below;
 mod chains;
 mod checks;

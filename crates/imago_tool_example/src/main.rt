@@ -35,7 +35,6 @@ fn open<'a>(host: &'a SystemFiles<'a>, path: &'a str) -> Result<Disk<'a>, OpenEr
         other_files: OtherFiles::InFolder,
         tables: Some(64 << 20),
         longest: None,
-        writable: false,
     };
     let (format, image) = open_image(host, path, how)?;
     Ok(Disk {
@@ -70,9 +69,8 @@ fn new_file<'a>(
     host: &'a SystemFiles<'a>,
     path: &str,
 ) -> Result<PathStorage<'a, SystemFiles<'a>>, OpenError> {
-    let file = File::create_new(rt, path);
-    OpenError::or_system(rt.alloc(), path, file)?;
-    storage_of(PathFile::open_to_write(host, path)?, path)
+    let file = OpenError::or_system(rt.alloc(), path, File::create_new(rt, path))?;
+    storage_of(PathFile::opened(host, path, file)?, path)
 }
 
 /// The calls that are made on the copy-on-write disk.

@@ -10,7 +10,7 @@ type Row = (&'static str, u8, &'static str, &'static str);
 
 /// qcow2 images whose disk of 2048 bytes is what is below, and files for below. A name of a backing
 /// file stands at 200, the header extension with its format at 104.
-static PARTS: [PartsRow; 16] = [
+static PARTS: [PartsRow; 18] = [
     // A raw file that begins as a qcow2 image does, and one that begins as a sparse VMDK image.
     ("begun.raw", 512, &[(0, b"QFI\xfb")]),
     ("sparse.raw", 512, &[(0, b"KDMV")]),
@@ -96,6 +96,39 @@ static PARTS: [PartsRow; 16] = [
             (39, b"\x01"),
             (46, b"\x02"),
             (200, b"sparse.raw"),
+        ],
+    ),
+    // Two extensions with a format; and one behind that of a format, that passes the name.
+    (
+        "says_two.qcow2",
+        1024,
+        &[
+            (0, VERSION_3),
+            (15, b"\xc8\0\0\0\x09"),
+            (23, b"\x09"),
+            (30, b"\x08"),
+            (39, b"\x01"),
+            (46, b"\x02"),
+            (99, b"\x04\0\0\0\x68"),
+            (104, b"\xe2\x79\x2a\xca\0\0\0\x03raw"),
+            (120, b"\xe2\x79\x2a\xca\0\0\0\x05qcow2"),
+            (200, b"one.qcow2"),
+        ],
+    ),
+    (
+        "says_past.qcow2",
+        1024,
+        &[
+            (0, VERSION_3),
+            (15, b"\xc8\0\0\0\x09"),
+            (23, b"\x09"),
+            (30, b"\x08"),
+            (39, b"\x01"),
+            (46, b"\x02"),
+            (99, b"\x04\0\0\0\x68"),
+            (104, b"\xe2\x79\x2a\xca\0\0\0\x03raw"),
+            (120, b"more\0\0\0\x49"),
+            (200, b"begun.raw"),
         ],
     ),
     // A name of no bytes.
@@ -212,9 +245,9 @@ static PARTS: [PartsRow; 16] = [
     ),
 ];
 
-/// The format of a file below: that of the name that the header has, or else what the file begins
-/// with, whatever the command line says of the first one.
-static FORMATS: [Row; 8] = [
+/// The format of a file below: that of the last name that the header has, or else what the file
+/// begins with, whatever the command line says of the first one.
+static FORMATS: [Row; 11] = [
     (
         "map says_raw.qcow2",
         0,
@@ -270,6 +303,35 @@ static FORMATS: [Row; 8] = [
         "",
         "imago-img: \"says_none_of_sparse.qcow2\" needs \"sparse.raw\": a sparse VMDK image, which \
          isn't supported\n",
+    ),
+    (
+        "compare says_two.qcow2 one.raw",
+        0,
+        "Images are identical.\n",
+        "",
+    ),
+    (
+        "map says_past.qcow2",
+        1,
+        "",
+        "imago-img: \"says_past.qcow2\": the image's data is invalid; imago-img check tells \
+         where\n",
+    ),
+    (
+        "info says_two.qcow2",
+        0,
+        "image: \"says_two.qcow2\"\nfile format: qcow2\nvirtual size: 2 KiB (2048 bytes)\n\
+        disk size: 1 KiB\ncluster_size: 512\n\
+        backing file: \"one.qcow2\"\n\
+        backing file format: \"qcow2\"\n\
+        Format specific information:\n\
+        \x20   compat: 1.1\n\
+        \x20   compression type: zlib\n\
+        \x20   lazy refcounts: false\n\
+        \x20   refcount bits: 16\n\
+        \x20   corrupt: false\n\
+        \x20   extended l2: false\n",
+        "",
     ),
     (
         "compare -f qcow2 says_none_of_raw.qcow2 says_raw.qcow2",

@@ -45,7 +45,7 @@ const SPELLED: &str = "a VMDK descriptor that doesn't begin with \"# Disk Descri
     vmdk or -f raw\n";
 
 /// Files of other formats, each by the signature that the format's own description gives.
-static REFUSED: [Row; 29] = [
+static REFUSED: [Row; 31] = [
     (
         "a.vdi",
         512,
@@ -102,6 +102,21 @@ static REFUSED: [Row; 29] = [
         1024,
         &[(512, b"koly\0\0\0\x04")],
         convert!("a DMG image"),
+    ),
+    (
+        "a.bochs",
+        512,
+        &[(0, b"Bochs Virtual HD Image"), (32, b"Redolog")],
+        convert!("a Bochs image"),
+    ),
+    (
+        "a.cloop",
+        512,
+        &[(
+            0,
+            b"#!/bin/sh\n#V2.0 Format\nmodprobe cloop file=$0 && mount -r",
+        )],
+        convert!("a cloop image"),
     ),
     ("a.vmdk", 512, &[(0, b"KDMV\x03\0\0\0")], SPARSE),
     ("cow.vmdk", 512, &[(0, b"COWD\x01\0\0\0")], SPARSE),

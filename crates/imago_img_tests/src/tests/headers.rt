@@ -262,9 +262,20 @@ fn faults_of_headers_are_named(rt: HostRuntime) {
     }
 }
 
+/// Two header extensions for the name of an external data file: the last one counts.
+const DATA_NAMES: Parts = &[
+    (79, b"\x04"),
+    (95, b"\x02"),
+    (104, b"DATA\0\0\0\x06x.data"),
+    (120, b"more\0\0\0\x01z"),
+    (136, b"DATA\0\0\0\x07y\x1b.data"),
+];
+
 /// What `info` prints of files that aren't opened: one that was left open, is corrupt, and has
-/// extended L2 entries and bit 9, and one that is encrypted and corrupt.
-static TOLD_UNOPENED: [(Parts, &str); 2] = [
+/// extended L2 entries and bit 9, and one that is encrypted and corrupt. Then of files with
+/// external data: as `qemu-img` 7.2, the name is told where the header has it, and whether it is
+/// raw where the data stand there. The last two are opened.
+static TOLD_UNOPENED: [(Parts, &str); 6] = [
     (
         &[(78, b"\x02\x13")],
         "image: \"a\"\nfile format: qcow2\nvirtual size: 2 KiB (2048 bytes)\ndisk size: 2 KiB\n\
@@ -284,6 +295,39 @@ static TOLD_UNOPENED: [(Parts, &str); 2] = [
         can't be opened: the header says encryption, which isn't supported\n\
         can't be opened: the header says corrupt, which isn't supported\n",
     ),
+    (
+        DATA_NAMES,
+        "image: \"a\"\nfile format: qcow2\nvirtual size: 2 KiB (2048 bytes)\ndisk size: 2 KiB\n\
+        cluster_size: 512\nFormat specific information:\n\x20   compat: 1.1\n\
+        \x20   compression type: zlib\n\x20   lazy refcounts: false\n\x20   refcount bits: 16\n\
+        \x20   data file: \"y\\u{1b}.data\"\n\x20   data file raw: true\n\
+        \x20   corrupt: false\n\x20   extended l2: false\n\
+        can't be opened: the header says external data file, which isn't supported\n",
+    ),
+    (
+        &[(79, b"\x04")],
+        "image: \"a\"\nfile format: qcow2\nvirtual size: 2 KiB (2048 bytes)\ndisk size: 2 KiB\n\
+        cluster_size: 512\nFormat specific information:\n\x20   compat: 1.1\n\
+        \x20   compression type: zlib\n\x20   lazy refcounts: false\n\x20   refcount bits: 16\n\
+        \x20   data file raw: false\n\
+        \x20   corrupt: false\n\x20   extended l2: false\n\
+        can't be opened: the header says external data file, which isn't supported\n",
+    ),
+    (
+        &[(104, b"DATA\0\0\0\x06x.data")],
+        "image: \"a\"\nfile format: qcow2\nvirtual size: 2 KiB (2048 bytes)\ndisk size: 2 KiB\n\
+        cluster_size: 512\nFormat specific information:\n\x20   compat: 1.1\n\
+        \x20   compression type: zlib\n\x20   lazy refcounts: false\n\x20   refcount bits: 16\n\
+        \x20   data file: \"x.data\"\n\
+        \x20   corrupt: false\n\x20   extended l2: false\n",
+    ),
+    (
+        &[(95, b"\x02")],
+        "image: \"a\"\nfile format: qcow2\nvirtual size: 2 KiB (2048 bytes)\ndisk size: 2 KiB\n\
+        cluster_size: 512\nFormat specific information:\n\x20   compat: 1.1\n\
+        \x20   compression type: zlib\n\x20   lazy refcounts: false\n\x20   refcount bits: 16\n\
+        \x20   corrupt: false\n\x20   extended l2: false\n",
+    ),
 ];
 
 /// What `info --json` prints of an encrypted file with snapshots.
@@ -297,6 +341,15 @@ const TOLD_JSON: &str = "{ \"filename\": \"a\", \"format\": \"qcow2\", \"virtual
     \"compression-type\": \"zlib\", \"refcount-bits\": 16, \"lazy-refcounts\": false, \
     \"corrupt\": false, \"extended-l2\": false } }, \"unsupported\": \
     [\"the header says encryption, which isn't supported\"] }\n";
+
+/// What `info --json` prints of a file with external data.
+const TOLD_DATA: &str = "{ \"filename\": \"a\", \"format\": \"qcow2\", \"virtual-size\": 2048, \
+    \"actual-size\": 2048, \"cluster-size\": 512, \"dirty-flag\": false, \
+    \"format-specific\": { \"type\": \"qcow2\", \"data\": { \"compat\": \"1.1\", \
+    \"compression-type\": \"zlib\", \"refcount-bits\": 16, \
+    \"data-file\": \"y\\u001b.data\", \"data-file-raw\": true, \"lazy-refcounts\": false, \
+    \"corrupt\": false, \"extended-l2\": false } }, \"unsupported\": \
+    [\"the header says external data file, which isn't supported\"] }\n";
 
 /// Two snapshots in a table at 1024. The first one has 8 bytes besides, and its name isn't UTF-8.
 const SNAPSHOTS: Parts = &[
@@ -321,6 +374,10 @@ fn images_that_arent_opened_are_told(rt: HostRuntime) {
     }
     let line = "info --json -f qcow2 a";
     check_changed(&rt, rt.alloc(), SNAPSHOTS, line, (0, TOLD_JSON, ""));
+    check_changed(&rt, rt.alloc(), DATA_NAMES, line, (0, TOLD_DATA, ""));
+    let refused = "imago-img: \"a\": the header says external data file, which isn't supported\n";
+    let line = "info --alone -f qcow2 a";
+    check_changed(&rt, rt.alloc(), DATA_NAMES, line, (1, "", refused));
 }
 
 /// Tables of snapshots that can't be told.

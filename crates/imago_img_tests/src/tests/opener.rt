@@ -6,9 +6,9 @@ ghost use Rattle.imago_access.specs.Chain.{driver};
 use super::set_up::files;
 use imago_access::access::FormatAccess;
 use imago_drivers::drivers::FormatDriverInstance;
-use imago_images::files::Files;
+use imago_images::files::{Files, WritableFiles};
 use imago_images::format::ImageFormat;
-use imago_images::opener::open_image;
+use imago_images::opener::{open_image, open_image_to_write};
 use imago_images::opening::{Accepted, Opening, OtherFiles};
 use std::alloc::Global;
 use std::process::Abort;
@@ -188,7 +188,6 @@ fn check_row<H: Files>(rt: &impl Abort, host: &H, row: &Row) {
         other_files: *other_files,
         tables: None,
         longest: None,
-        writable: false,
     };
     match (open_image(host, path, how), opened) {
         (Ok((format, image)), Opened::Shows(expected, size, parts)) => {
@@ -255,7 +254,6 @@ fn check_limited<H: Files>(rt: &impl Abort, host: &H) {
             other_files: OtherFiles::InFolder,
             tables: Some(most),
             longest: None,
-            writable: false,
         };
         match (open_image(host, path, how), refused) {
             (Ok(_), None) => {}
@@ -305,16 +303,12 @@ const TO_WRITE: Opening = Opening {
     other_files: OtherFiles::None,
     tables: None,
     longest: None,
-    writable: true,
 };
 
 /// Opens a raw image for writing, and changes it.
-fn write_raw<H: Files>(rt: &impl Abort, host: &H) {
-    match open_image(host, "plain.raw", TO_WRITE) {
-        Ok((format, mut image)) => {
-            assert!(rt; format == ImageFormat::Raw);
-            change(rt, host.alloc(), &mut image);
-        }
+fn write_raw<H: WritableFiles>(rt: &impl Abort, host: &mut H) {
+    match open_image_to_write(host, "plain.raw", TO_WRITE) {
+        Ok(mut image) => change(rt, (*host).alloc(), &mut image),
         Err(cause) => assert!(rt; false, "{cause}"),
     }
 }
@@ -328,10 +322,10 @@ fn change<D: FormatDriverInstance>(rt: &impl Abort, alloc: Global, image: &mut F
 }
 
 /// Tries to open the images of all rows for writing.
-fn check_read_only<H: Files>(rt: &impl Abort, host: &H) {
-    let alloc = host.alloc();
+fn check_read_only<H: WritableFiles>(rt: &impl Abort, host: &mut H) {
+    let alloc = (*host).alloc();
     for &(path, told) in &READ_ONLY {
-        let Err(cause) = open_image(host, path, TO_WRITE) else {
+        let Err(cause) = open_image_to_write(host, path, TO_WRITE) else {
             assert!(rt; false, "{path} was opened for writing");
             return;
         };
@@ -347,7 +341,7 @@ fn check_read_only<H: Files>(rt: &impl Abort, host: &H) {
 fn only_raw_images_are_opened_for_writing(rt: HostRuntime) {
     let host = files(rt.alloc());
     assert!(&rt; host.is_ok());
-    let Ok(host) = &host else { return };
-    write_raw(&rt, host);
-    check_read_only(&rt, host);
+    let Ok(mut host) = host else { return };
+    write_raw(&rt, &mut host);
+    check_read_only(&rt, &mut host);
 }

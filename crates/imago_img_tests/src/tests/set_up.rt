@@ -368,6 +368,11 @@ pub fn files(alloc: Global) -> Result<MemoryHost, AllocError> {
     filled(alloc, MemoryHost::new(alloc, 0, false), &[])
 }
 
+/// A host with the files, in which new ones can be made.
+pub fn copying(alloc: Global) -> Result<MemoryHost, AllocError> {
+    filled(alloc, MemoryHost::new(alloc, 99, true), &[])
+}
+
 /// A host with the files and some more.
 fn set_up(alloc: Global, case: &Case, more: &[PartsRow]) -> Result<MemoryHost, AllocError> {
     filled(

@@ -36,7 +36,7 @@ macro_rules! untold {
 
 /// The files. The images begin as those of the other tests do: clusters of 512 bytes, an L1 table at
 /// 512, and L2 tables behind it.
-static MORE: [PartsRow; 8] = [
+static MORE: [PartsRow; 11] = [
     (
         "zero.vmdk",
         49,
@@ -109,9 +109,13 @@ static MORE: [PartsRow; 8] = [
     ("iso.qcow2", 32774, &[(0, VERSION_3), (32769, b"CD001")]),
     ("guest.vdi", 512, &[(64, b"\x7f\x10\xda\xbe")]),
     ("ends.dmg", 1024, &[(0, b"\x1f\x8b"), (512, b"koly")]),
+    // What QEMU sees in these, qemu-img 7.2 was seen to.
+    ("text.img", 14, &[(0, b"#\xff\0\nversion=1\n")]),
+    ("short.img", 3, &[(0, b"QED")]),
+    ("named.dmg", 7, &[(0, b"a disk\n")]),
 ];
 
-static CASES: [Case; 18] = [
+static CASES: [Case; 21] = [
     told!(
         "vet one.qcow2",
         0,
@@ -126,8 +130,9 @@ static CASES: [Case; 18] = [
     ),
     told!(
         "vet --max-size=2K zero.vmdk",
-        0,
-        "\"zero.vmdk\" is safe to hand on: vmdk, a disk of 2048 bytes in a file of 49 bytes\n"
+        2,
+        "\"zero.vmdk\" is refused:\n\
+         descriptor: it is a VMDK descriptor, whose lines QEMU reads in another way\n"
     ),
     // Another file.
     told!(
@@ -139,6 +144,7 @@ static CASES: [Case; 18] = [
         "vet --strict extents.vmdk",
         2,
         "\"extents.vmdk\" is refused:\n\
+         descriptor: it is a VMDK descriptor, whose lines QEMU reads in another way\n\
          extent at 32: its extent is \"a\\\\b.bin\"\n\
          invalid at 54: a line of its descriptor is invalid\n\
          feature at 64: an extent may not be read\n\
@@ -196,6 +202,23 @@ static CASES: [Case; 18] = [
         "\"iso.qcow2\" is refused:\n\
          two-formats at 32769: it is a qcow2 image, and also an ISO 9660 image\n\
          invalid at 20: the header says clusters of 2^0 bytes, which is out of range\n"
+    ),
+    told!(
+        "vet text.img",
+        2,
+        "\"text.img\" is refused:\nanother-format: QEMU takes it for a VMDK image\n"
+    ),
+    told!(
+        "vet --output=json -f raw short.img",
+        2,
+        "{ \"filename\": \"short.img\", \"safe\": false, \"format\": \"raw\", \
+         \"virtual-size\": 3, \"file-size\": 3, \"reasons\": [{ \"reason\": \
+         \"another-format\", \"text\": \"QEMU takes it for a QED image\" }] }\n"
+    ),
+    told!(
+        "vet named.dmg",
+        2,
+        "\"named.dmg\" is refused:\nanother-format: QEMU takes it for a DMG image\n"
     ),
     // Limits.
     told!(

@@ -19,7 +19,6 @@ const PLAIN: Opening = Opening {
     other_files: OtherFiles::InFolder,
     tables: None,
     longest: None,
-    writable: false,
 };
 
 /// A new file, which replaces none.

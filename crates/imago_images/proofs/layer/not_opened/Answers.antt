@@ -1,5 +1,5 @@
 -- SPDX-License-Identifier: MIT
-use Rattle.std.proofs.Common.{rules, ◌≡◌, ℕ, List, length, sym}
+use Rattle.std.proofs.Common.{rules, ◌≡◌, length, sym}
 use Rattle.imago_images.specs.Refusals.{IsByQcow2}
 use Rattle.imago_images.proofs.RefusalSteps.{header_out, answer_out, told_out}
 use Rattle.imago_images.proofs.layer.not_opened.Goals as goal

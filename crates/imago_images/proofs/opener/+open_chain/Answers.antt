@@ -1,15 +1,16 @@
 -- SPDX-License-Identifier: MIT
-use Rattle.std.proofs.Common.{◌≡◌, ◌∙◌, ◌-◌, ◌+◌, ◌≤◌, arith, ap, length, Err, option_map, subst, IfSome, Option, List, ℕ}
+use Rattle.std.proofs.Common.{◌≡◌, ◌∙◌, ◌-◌, ◌+◌, ◌≤◌, arith, ap, sym, length, Err, option_map, subst, IfSome, Option, List, ℕ}
 use Rattle.std.proofs.lemmas.Result.{err_from_is_err_and}
 use Rattle.std.specs.String.{string_bytes}
 use Rattle.imago_any_driver.specs.AnyDriver.{view_over}
 use Rattle.imago_images.proofs.NameSteps.{told_format}
 use Rattle.imago_images.specs.declared.layer.Below.{Below}
 use Rattle.imago_images.specs.Images.{IsLayerOf, IsImageIn}
+use Rattle.imago_images.specs.Layers.{tables_in, AreWithin}
 use Rattle.imago_images.proofs.PathSteps.{features_of, bytes_of}
 use Rattle.imago_file.specs.StorageParts.{faults_of}
 use Rattle.imago_images.proofs.PartSteps.{path_in, format_in}
-use Rattle.imago_images.proofs.ChainSteps.{alone_image, over_image, too_deep_out, next_out, below_out, last_ends, next_ends}
+use Rattle.imago_images.proofs.ChainSteps.{alone_image, over_image, too_deep_out, next_out, below_out, last_ends, next_ends, kept_told}
 use Rattle.imago_images.proofs.ImageSteps.{refused_with, chain_memory}
 use Rattle.imago_images.specs.Way.{entered}
 use Rattle.imago_images.specs.Chains.{IsChainRefused, IsEndingWay}
@@ -133,7 +134,8 @@ returns-in_default-clause-end g t c =
     c.args.how.accepted c.args.how.other_files files c.args.path.now c.args.format layer.driver
     (option_map path_in b)) in
     last_ends (view_over (features_of contents opened) faults_of (bytes_of contents opened))
-    c.args.how.accepted c.args.how.other_files (g.H.Files.statuses host) (entered c.args.way.now)
+    c.args.how.accepted c.args.how.other_files (g.H.Files.statuses host) (g.H.Files.real_paths host) c.args.how
+    (entered c.args.way.now)
     c.args.path.now c.args.format known layer.driver c.args.most
     (subst says c.in_default.is c.in_ok-driver.ensures.layer)
 
@@ -153,14 +155,17 @@ returns-clause-end g t c =
     let now = entered c.next_file.new.way in
     let less : ℕ = c.args.most - 1 in
     let least : c.args.most - 1 + 1 ≤ c.args.most = omega arith in
-    let ends : List ℕ → Type 0 = λ q. IfSome known (λ files. IsEndingWay files (g.H.Files.statuses host) now q
-    c.in_ok-file.format less) in
+    let ends : List ℕ → Type 0 = λ q. IfSome known (λ files. IsEndingWay files (g.H.Files.statuses host)
+    (g.H.Files.real_paths host) c.args.how now q c.in_ok-file.format less) in
     next_ends (view_over (features_of contents opened) faults_of (bytes_of contents opened))
-    c.args.how.accepted c.args.how.other_files (g.H.Files.statuses host) (entered c.args.way.now)
+    c.args.how.accepted c.args.how.other_files (g.H.Files.statuses host) (g.H.Files.real_paths host) c.args.how
+    (entered c.args.way.now)
     c.args.path.now c.args.format known (string_bytes next.path) next.format c.in_ok-file.format layer.driver
     anew.0 now less c.args.most (subst says c.in-Some.is c.in_ok-driver.ensures.layer)
     (told_format known c.args.path.now Below format_in layer.below next c.in-Some.is c.in_ok-driver.ensures.format)
-    c.in_ok-file.ensures.format anew.1 anew.2 anew.3 least
+    c.in_ok-file.ensures.format
+    (kept_told known (g.H.Files.real_paths host) c.args.how c.args.path.now (string_bytes next.path) c.in_ok-file.format
+    c.in_ok-file.ensures.through c.in_ok-file.ensures.inside c.in_ok-file.ensures.longest c.in_ok-file.ensures.l1) anew.1 anew.2 anew.3 least
     (subst ends c.deref.ensures c.in_ok-below.ensures.end)
 
 pub returns-in_err-over-clause-refused : goal.returns-in_err-over-clause-refused
@@ -170,3 +175,13 @@ returns-in_err-over-clause-refused g t c =
     refused_with c.from_residual-in_err-over.result p.0 _ p.1
     (chain_memory (g.H.Files.contents host) (g.H.Files.statuses host) (g.H.Files.real_paths host)
     c.args.how.other_files c.args.how (entered c.args.way.now) c.args.path.now c.args.format p.0 p.2)
+
+pub returns-in_default-clause-tables : goal.returns-in_default-clause-tables
+returns-in_default-clause-tables g t c =
+    subst (λ (ns : List ℕ). AreWithin c.args.how.tables ns) (sym (c.alone.ensures.tables tables_in))
+    (c.in_ok-driver.ensures.tables, tt)
+
+pub returns-clause-tables : goal.returns-clause-tables
+returns-clause-tables g t c =
+    subst (λ (ns : List ℕ). AreWithin c.args.how.tables ns) (sym (c.in_ok-over.ensures.tables tables_in))
+    (c.in_ok-driver.ensures.tables, c.in_ok-below.ensures.tables)

@@ -1,5 +1,5 @@
 -- SPDX-License-Identifier: MIT
-use Rattle.std.proofs.Common.{◌≡◌, ℕ, List, OnOk, replicate, subst}
+use Rattle.std.proofs.Common.{◌≡◌, ℕ, OnOk, replicate, subst}
 use Rattle.imago_img_parts.specs.NewFiles.{IsNewlyMade}
 use Rattle.imago_img_parts.proofs.NewFiles.{anyway, made_new, whole_new}
 use Rattle.imago_img_parts.proofs.create.create_raw.Goals as goal

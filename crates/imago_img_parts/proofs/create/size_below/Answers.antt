@@ -1,5 +1,5 @@
 -- SPDX-License-Identifier: MIT
-use Rattle.std.proofs.Common.{◌∙◌, IfSome, Option, subst, sym, ℕ}
+use Rattle.std.proofs.Common.{◌∙◌, IfSome, Option, subst, sym}
 use Rattle.std.specs.Prelude.{IfOk}
 use Rattle.imago_words.specs.declared.command.Backing.{Backing}
 use Rattle.imago_img_parts.specs.NewFiles.{IsSizeBelow}

@@ -1,5 +1,5 @@
 -- SPDX-License-Identifier: MIT
-use Rattle.std.proofs.Common.{◌≡◌, ℕ, IfSome, subst, sym}
+use Rattle.std.proofs.Common.{ℕ, IfSome, subst, sym}
 use Rattle.imago_img_parts.specs.NewFiles.{IsSizeBy}
 use Rattle.imago_img_parts.proofs.NewFiles.{sized_by}
 use Rattle.imago_img_parts.proofs.create.tested_size.Goals as goal

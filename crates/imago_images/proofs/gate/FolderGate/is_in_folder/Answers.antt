@@ -14,5 +14,5 @@ returns-clause-out g c = λ bounded out.
     let beyond : leaves ≡ true → IsBeyond reals c.args.path.now (gate_bounds gate) =
     passed_on c.leaves-leaves.result c.or_system.result leaves
     (λ (yes : Bool). yes ≡ true → IsBeyond reals c.args.path.now (gate_bounds gate))
-    c.leaves-leaves.ensures c.or_system.ensures.given c.in_ok-or_system.was in
+    c.leaves-leaves.ensures.out c.or_system.ensures.given c.in_ok-or_system.was in
     inr (leads_out reals (gate_image gate) c.args.path.now (gate_bounds gate) bounded (beyond (not_false leaves out)))

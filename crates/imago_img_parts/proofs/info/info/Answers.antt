@@ -1,0 +1,12 @@
+-- SPDX-License-Identifier: MIT
+use Rattle.imago_images.proofs.PathSteps.{features_of, bytes_of}
+use Rattle.imago_img_parts.specs.Described.{IsDescribed}
+use Rattle.imago_img_parts.proofs.FaultSteps.{of_file}
+use Rattle.imago_img_parts.proofs.info.info.Goals as goal
+
+pub returns : goal.returns
+returns g c =
+    let contents = g.H.Files.contents in
+    let opened = g.H.File.HostFile.contents in
+    of_file (features_of contents opened) (bytes_of contents opened) (contents c.args.host.now) c.args.path.now c.in_ok-file.file
+    (λ bytes. IsDescribed c.args.how c.args.path.now bytes) c.in_ok-report.ensures c.in_ok-file.ensures.told
