@@ -233,7 +233,7 @@ fn test_target<H: Host>(
 }
 
 /// Whether no unfinished file stands beside a path, or one that may be removed: it isn't a file of
-/// the image.
+/// the image, nor a link to one.
 fn test_left_over<H: Host>(
     host: &H,
     image: &FileImage<'_, H>,
@@ -247,10 +247,18 @@ fn test_left_over<H: Host>(
     if !replace {
         return Err(Failure::of_target(alloc, &left.path, Refusal::LeftOver));
     }
-    if has_file(image, left.status) {
+    if has_file(image, left.status) || leads_to_file(host, image, &left.path) {
         return Err(Failure::of_target(alloc, &left.path, Refusal::IsSource));
     }
     Ok(())
+}
+
+/// Whether a path leads to a file of an image, as a link may by which the command line names it.
+fn leads_to_file<H: Host>(host: &H, image: &FileImage<'_, H>, path: &str) -> bool {
+    match host.status(path) {
+        Ok(there) => has_file(image, there),
+        Err(_) => false,
+    }
 }
 
 /// Why a file isn't replaced, which may be one of the image that is read.
