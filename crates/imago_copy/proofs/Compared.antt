@@ -1,19 +1,21 @@
 -- Parts of two disks, compared.
 -- SPDX-License-Identifier: MIT
-use Rattle.std.proofs.Common.{◌≡◌, ℕ, ◌+◌, ◌-◌, ◌<◌, ◌≤◌, ◌⊎◌, ⊎_elim, List, length, slice_index, Option, Some, None, sym, ap, ◌∙◌, subst, arith, Result, Ok}
-use Rattle.std.specs.Prelude.{IsTrue, IfOk}
+use Rattle.std.proofs.Common.{◌≡◌, ℕ, ◌+◌, ◌-◌, ◌<◌, ◌≤◌, ◌⊎◌, ⊎_elim, true, false, refl, List, length, slice_index, Option, Some, None, sym, ap, ◌∙◌, subst, arith, Result, Ok}
+use Rattle.std.specs.Prelude.{IsTrue, IfOk, OnOk, Err, is_some}
 use Rattle.imago_storage.specs.declared.error.Error.{Error}
 use Rattle.std.proofs.lemmas.Bool.{cases_lt}
 use Rattle.std.proofs.lemmas.List.{get_or_past}
 use Rattle.std.proofs.lemmas.List.FromFn.{length-map-range_with_len, get_or-map-range_with_len}
-use Rattle.imago_drivers.specs.Place.{Value, Byte, Unreadable}
+use Rattle.imago_drivers.specs.Place.{Value, Byte, Unreadable, HasValues}
 use Rattle.imago_drivers.specs.View.{View}
 use Rattle.imago_access.specs.declared.access.FormatAccess.{FormatAccess}
 use Rattle.imago_access.specs.Chain.{driver, disk_value, tells_bytes}
 use Rattle.imago_access.specs.Disk.{value_at, disk, IsPartOf}
 use Rattle.imago_copy.specs.Differences.{IsFirstDifference, IsFirstDifferentValue}
 use Rattle.imago_copy.specs.Compared.{AreSameIn, IsZeroIn, IsDifferenceIn}
+use Rattle.imago_copy.specs.declared.runs.Run.{Run}
 use Rattle.imago_copy.specs.Ends.{AreZeroBehind}
+use Rattle.imago_copy.specs.RestOf.{IsAtHand}
 
 abbrev byte_in : Value → ℕ
 byte_in (Byte b) = b
@@ -67,6 +69,25 @@ module _ {D St : Type 0} (view : D → View St) (x : FormatAccess D) where
   pub zero_end : (p q : ℕ) → size ≤ p → IsZeroIn (disk view x) p q
   zero_end p q le k from to = zero_behind k (omega (arith, le, from))
 
+module _ {D St : Type 0} (view : D → View St) (x : FormatAccess D) where
+  -- the run at hand, where one is
+  pub at_hand : (p end : ℕ) (held : Option Run) (run : Run) → held ≡ Some run → IsAtHand view x p end held → IsAtHand view x p end (Some run)
+  at_hand p end held run is h = subst (IsAtHand view x p end) is h
+
+  -- values that were read of the disk, as a part of its list
+  pub part_read : (y : FormatAccess D) (o p n : ℕ) (buf : List ℕ) (result : Result Unit Error) → y ≡ x → o ≡ p → length buf ≡ n → p + n ≤ (view (driver x)).size
+      → (IsTrue (tells_bytes view y) → OnOk result (HasValues (disk_value view y) o buf)) → IsTrue (tells_bytes view x) → OnOk result (IsPartOf (disk view x) p n buf)
+  part_read y o p n buf (Err e) same at long inside read tells = tt
+  part_read y o p n buf (Ok u) same at long inside read tells =
+      let values : HasValues (disk_value view x) p buf = subst (λ (q : ℕ). HasValues (disk_value view x) q buf) at
+      (subst (λ (z : FormatAccess D). IsTrue (tells_bytes view z) → HasValues (disk_value view z) o buf) same read tells) in (
+        long,
+        λ k lt.
+            let here : p + k < (view (driver x)).size = omega (arith, lt, inside) in
+            let there : k < length buf = omega (arith, lt, long) in
+            value_in view x (p + k) here ∙ values k there,
+      )
+
 -- what is the same up to an offset, and in a part from there on, is the same up to its end
 pub same_further : (xs ys : List Value) (p n q : ℕ) → AreSameIn xs ys 0 p → AreSameIn xs ys p (p + n) → q ≤ p + n → AreSameIn xs ys 0 q
 same_further xs ys p n q before here to k from lt = ⊎_elim
@@ -96,3 +117,28 @@ module _ {D E St Tt : Type 0} (view : D → View St) (other : E → View Tt) (x 
       let two = subst (λ (z : FormatAccess D). IsTrue (tells_bytes view z) → IsTrue (tells_bytes other b) → AreSameIn (disk view z) (disk other b) p (p + m)) left one in
       let three = subst (λ (z : FormatAccess E). IsTrue (tells_bytes view x) → IsTrue (tells_bytes other z) → AreSameIn (disk view x) (disk other z) p (p + m)) right two in
       subst (λ (k : ℕ). IsTrue (tells_bytes view x) → IsTrue (tells_bytes other y) → AreSameIn (disk view x) (disk other y) p (p + k)) long three
+
+  -- a difference of two images that were read is their first one
+  pub found_some : (a : FormatAccess D) (b : FormatAccess E) (p m : ℕ) (result : Result (Option ℕ) Error) (found : Option ℕ) → a ≡ x → b ≡ y → result ≡ Ok found → is_some found ≡ true
+      → (IsTrue (tells_bytes view a) → IsTrue (tells_bytes other b) → IfOk result (λ f. IsDifferenceIn (disk view a) (disk other b) p m f))
+      → (IsTrue (tells_bytes view x) → IsTrue (tells_bytes other y) → AreSameIn (disk view x) (disk other y) 0 p)
+      → IsTrue (tells_bytes view x) → IsTrue (tells_bytes other y) → IsFirstDifferentValue (disk view x) (disk other y) found
+  found_some a b p m result None left right ok some h before told told_other = let z : ⊥ = cc some in absurd z
+  found_some a b p m result (Some q) left right ok some h before told told_other =
+      let one = subst (λ (r : Result (Option ℕ) Error). IsTrue (tells_bytes view a) → IsTrue (tells_bytes other b) → IfOk r (λ f. IsDifferenceIn (disk view a) (disk other b) p m f)) ok h in
+      let two = subst (λ (z : FormatAccess D). IsTrue (tells_bytes view z) → IsTrue (tells_bytes other b) → IsDifferenceIn (disk view z) (disk other b) p m (Some q)) left one in
+      let three = subst (λ (z : FormatAccess E). IsTrue (tells_bytes view x) → IsTrue (tells_bytes other z) → IsDifferenceIn (disk view x) (disk other z) p m (Some q)) right two in
+      let found = three told told_other in
+      let least : (k : ℕ) → 0 ≤ k = λ k. omega arith in
+      (λ k lt. ⊎_elim (λ (below : k < p). before told told_other k (least k) below) (λ (above : p ≤ k). found.0 k above lt) (cases_lt k p), found.2)
+
+-- what is the same up to an offset, and zero in both from there on, is the same up to where that ends
+pub same_zeroes : (xs ys : List Value) (p a b q : ℕ) → AreSameIn xs ys 0 p → IsZeroIn xs p a → IsZeroIn ys p b → q ≤ a → q ≤ b → AreSameIn xs ys 0 q
+same_zeroes xs ys p a b q before one two to_a to_b k from lt = ⊎_elim
+    (λ (below : k < p). before k from below)
+    (λ (above : p ≤ k). one k above (omega (arith, lt, to_a)) ∙ sym (two k above (omega (arith, lt, to_b))))
+    (cases_lt k p)
+
+pub none_of : (o : Option ℕ) → is_some o ≡ false → o ≡ None
+none_of None h = refl
+none_of (Some n) h = let z : ⊥ = cc h in absurd z

@@ -3,45 +3,11 @@
 use Rattle.std.proofs.Common.{◌≡◌, ℕ, ◌+◌, ◌-◌, ◌<◌, ◌≤◌, ⊎_elim, ◌&&◌, ◌==◌, true, Some, None, sym, ap, ◌∙◌, subst, arith}
 use Rattle.std.proofs.lemmas.Bool.{cases_lt, and_parts, eqb-true}
 use Rattle.imago_drivers.specs.Place.{Stored}
-use Rattle.imago_drivers.specs.View.{View}
-use Rattle.imago_access.specs.declared.access.FormatAccess.{FormatAccess}
-use Rattle.imago_access.specs.declared.mapping.Mapping.{Mapping}
-use Rattle.imago_access.specs.declared.mapping.Mapping.TheVariants as M
-use Rattle.imago_access.specs.Resolved.{IsResolved, IsEndOfImage, LeadsTo}
-use Rattle.imago_access.specs.Target.{Target, target}
+use Rattle.imago_access.specs.Target.{Target}
 use Rattle.imago_copy.specs.declared.runs.Kind.{Kind}
 use Rattle.imago_copy.specs.declared.runs.Kind.TheVariants as K
 use Rattle.imago_copy.specs.declared.runs.Run.{Run}
-use Rattle.imago_copy.specs.Runs.{named_kind, Stands, IsRunAt, goes_on}
-
-some_is : {A : Type 0} (a b : A) → Some a ≡ Some b → a ≡ b
-some_is a b e = cc e
-
-none_some : {A : Type 0} (a : A) → None ≡ Some a → ⊥
-none_some a e = cc e
-
--- where a mapping leads, what it names stands
-pub named_stands : (m : Mapping) (k : Kind) (i : ℕ) (t : Target) → named_kind m ≡ Some k → LeadsTo m i t → Stands k i t
-named_stands (M.Raw layer storage offset w) k i t e h =
-    subst (λ (z : Kind). Stands z i t) (some_is _ _ e) (h.0, (h.1.0, h.1.1, h.1.2))
-named_stands (M.Zero explicit) k i t e h = subst (λ (z : Kind). Stands z i t) (some_is _ _ e) (explicit, h)
-named_stands M.Eof k i t e h = absurd h
-named_stands (M.Special layer offset) k i t e h =
-    subst (λ (z : Kind). Stands z i t) (some_is _ _ e) (h.0, (h.1.0, h.1.1))
-
-not_end : (m : Mapping) (k : Kind) → named_kind m ≡ Some k → IsEndOfImage m → ⊥
-not_end (M.Raw layer storage offset w) k e h = h
-not_end (M.Zero explicit) k e h = h
-not_end M.Eof k e h = none_some k e
-not_end (M.Special layer offset) k e h = h
-
-module _ {D St : Type 0} (view : D → View St) (x : FormatAccess D) (o most n : ℕ) (m : Mapping) where
-  -- a mapping that names something is a run
-  pub mapped : (run : Run) → run.at ≡ o → run.count ≡ n → named_kind m ≡ Some run.kind → 0 < most → IsResolved view x o most m n → IsRunAt (target view x) o run
-  mapped run at count named some r =
-      let empty : n ≡ 0 → ⊥ = λ z. ⊎_elim (λ end. not_end m run.kind named end) (λ none. absurd (omega (arith, none, some))) (r.empty z) in
-      let full : 0 < n = ⊎_elim (λ (lt : 0 < n). lt) (λ (le : n ≤ 0). absurd (empty (omega (arith, le)))) (cases_lt 0 n) in
-      (at, omega (arith, full, count), λ i lt. named_stands m run.kind i (target view x (o + i)) named (r.leads i (omega (arith, lt, count))))
+use Rattle.imago_copy.specs.Runs.{Stands, IsRunAt, goes_on}
 
 -- a byte behind that many of a kind
 behind_stands : (s r : Kind) (n j : ℕ) (t : Target) → goes_on s n r ≡ true → Stands r j t → Stands s (n + j) t

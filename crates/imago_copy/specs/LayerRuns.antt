@@ -9,6 +9,7 @@ use Rattle.imago_copy.specs.declared.layers.LayerRun.{LayerRun}
 use Rattle.imago_copy.specs.declared.layers.LayerRuns.{LayerRuns}
 use Rattle.imago_copy.specs.Allocations.{AreAllocated}
 use Rattle.imago_copy.specs.Runs.{IsRunAt, goes_on}
+use Rattle.imago_copy.specs.WayOf.{IsWayIn}
 
 -- a run that begins at p, of which the layer that is told has each byte, or none has one
 abbrev pub IsLayerRunAt : (ℕ → Target) → ℕ → LayerRun → Type 0
@@ -56,7 +57,7 @@ at_of r = r.at
 abbrev pub next_of : {D : Type 0} → LayerRuns D → Option LayerRun
 next_of r = r.next
 
--- what is at hand is the next mapping of the image
+-- what is at hand is the next mapping of the image, and the way is one in it
 abbrev pub AreReady : {D St : Type 0} → (D → View St) → LayerRuns D → Type 0
 AreReady view r = IsLayerRestOf view r.image.now r.at r.next
-    × (r.at ≤ (view (driver r.image.now)).size)
+    × (r.at ≤ (view (driver r.image.now)).size) × IsWayIn view r.image.now r.way

@@ -9,3 +9,5 @@ pub mod Copies
 pub mod Differences
 pub mod Compared
 pub mod RestOf
+pub mod Ways
+pub mod WayOf

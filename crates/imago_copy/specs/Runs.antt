@@ -5,21 +5,12 @@ use Rattle.std.specs.Prelude.{Option, Some, None}
 use Rattle.imago_drivers.specs.Place.{Value, Stored, Special}
 use Rattle.imago_drivers.specs.View.{View}
 use Rattle.imago_access.specs.declared.access.FormatAccess.{FormatAccess}
-use Rattle.imago_access.specs.declared.mapping.Mapping.{Mapping}
-use Rattle.imago_access.specs.declared.mapping.Mapping.TheVariants as M
 use Rattle.imago_access.specs.Chain.{driver}
 use Rattle.imago_access.specs.Resolved.{LeadsToZero}
 use Rattle.imago_access.specs.Target.{Target, target, told_depth}
 use Rattle.imago_copy.specs.declared.runs.Kind.{Kind}
 use Rattle.imago_copy.specs.declared.runs.Kind.TheVariants as K
 use Rattle.imago_copy.specs.declared.runs.Run.{Run}
-
--- what a mapping names: the end of an image is nothing
-abbrev pub named_kind : Mapping → Option Kind
-named_kind (M.Raw layer storage offset writable) = Some (K.Stored layer storage offset)
-named_kind (M.Zero explicit) = Some K.Zero
-named_kind M.Eof = None
-named_kind (M.Special layer offset) = Some (K.Special layer offset)
 
 -- the i-th byte of a kind is what that offset of the disk leads to
 abbrev pub Stands : Kind → ℕ → Target → Type 0

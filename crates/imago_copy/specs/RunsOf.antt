@@ -7,6 +7,7 @@ use Rattle.imago_access.specs.Chain.{driver}
 use Rattle.imago_copy.specs.declared.runs.Run.{Run}
 use Rattle.imago_copy.specs.declared.runs.Runs.{Runs}
 use Rattle.imago_copy.specs.Runs.{IsRestOf}
+use Rattle.imago_copy.specs.WayOf.{IsWayIn}
 
 -- the image
 abbrev pub image_of : {D : Type 0} → Runs D → FormatAccess D
@@ -20,6 +21,7 @@ at_of r = r.at
 abbrev pub next_of : {D : Type 0} → Runs D → Option Run
 next_of r = r.next
 
--- what is at hand is the next mapping of the image
+-- what is at hand is the next mapping of the image, and the way is one in it
 abbrev pub IsReady : {D St : Type 0} → (D → View St) → Runs D → Type 0
-IsReady view r = IsRestOf view r.image.now r.at r.next × (r.at ≤ (view (driver r.image.now)).size)
+IsReady view r = IsRestOf view r.image.now r.at r.next
+    × (r.at ≤ (view (driver r.image.now)).size) × IsWayIn view r.image.now r.way

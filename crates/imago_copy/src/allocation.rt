@@ -4,7 +4,7 @@ ghost use Rattle.std.specs.Prelude.{◌≡◌, ◌≢◌, ◌+◌, ◌-◌, ◌^
 ghost use Rattle.imago_access.specs.Target.{target};
 ghost use Rattle.imago_copy.specs.Allocations.{in_layer, in_none, allocation_of, AreAllocated};
 
-use crate::layers::first_run;
+use crate::way::Way;
 use imago_access::access::FormatAccess;
 use imago_drivers::drivers::FormatDriverInstance;
 use imago_storage::error::Error;
@@ -70,11 +70,12 @@ pub fn allocation_at<D: FormatDriverInstance>(
     ensures apart { IfOk result
         (λ r. r.1 < most → allocation_of (target D.view image.now (at + r.1)) ≢ r.0) }
 {
-    let first = first_run(image, at, most)?;
+    let mut way = Way::new(image);
+    let first = way.first_run(image, at, most)?;
     let found = first.allocation;
     let mut count = first.run.count;
     while count < most {
-        let next = first_run(image, at + count, most - count)?;
+        let next = way.first_run(image, at + count, most - count)?;
         if !next.allocation.is_same(found) {
             return Ok((found, count));
         }

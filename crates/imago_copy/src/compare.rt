@@ -1,15 +1,16 @@
 // SPDX-License-Identifier: MIT
 //! Whether two disks show the same.
-ghost use Rattle.std.specs.Prelude.{◌≡◌, ◌+◌, ◌<◌, ◌≤◌, ◌^◌, ◌-◌, true, IsTrue, OnOk, IfOk, IfSome};
+ghost use Rattle.std.specs.Prelude.{◌≡◌, ◌&&◌, ◌+◌, ◌<◌, ◌≤◌, ◌^◌, ◌-◌, true, IsTrue, OnOk, IfOk, IfSome};
 ghost use Rattle.std.specs.Prelude.{length};
 ghost use Rattle.imago_access.specs.Chain.{tells_bytes};
-ghost use Rattle.imago_access.specs.Disk.{disk};
-ghost use Rattle.imago_access.specs.ReaderOf.{image_of, IsKeeping};
+ghost use Rattle.imago_access.specs.Disk.{disk, IsPartOf};
 ghost use Rattle.imago_copy.specs.Differences.{IsFirstDifference, IsFirstDifferentValue};
 ghost use Rattle.imago_copy.specs.Compared.{IsZeroIn, IsDifferenceIn};
+ghost use Rattle.imago_copy.specs.RestOf.{disk_of, end_of, HasPart};
 
 use crate::ends::data_count;
-use crate::runs::Runs;
+use crate::runs::{Run, Runs};
+use crate::stored::read_run;
 use imago_access::access::FormatAccess;
 use imago_access::reader::Reader;
 use imago_drivers::drivers::FormatDriverInstance;
@@ -25,10 +26,20 @@ struct Part {
     is_zero: bool,
 }
 
+/// Whether both are known to be zero.
+fn are_zero(one: Part, other: Part) -> bool
+    ensures { result ≡ (one.is_zero && other.is_zero) }
+{
+    one.is_zero && other.is_zero
+}
+
 /// What is left of a disk. Behind its end all is zero.
 #[derive(Drop)]
 struct Rest<'a, D> {
     runs: Runs<'a, D>,
+    reader: Reader<'a, D>,
+    /// The run at hand, if there is one.
+    run: Option<Run>,
     /// Where what isn't known to be zero of the run at hand ends.
     data_end: u64,
     /// Where the run at hand ends.
@@ -36,15 +47,15 @@ struct Rest<'a, D> {
 }
 
 impl<'a, D: FormatDriverInstance> Rest<'a, D> {
-    ghost use Rattle.imago_copy.specs.RestOf.{disk_of, end_of, HasPart};
-
     /// All of a disk, of which no run is at hand.
-    fn new(image: &'a FormatAccess<D>) -> Result<Self, Error>
+    fn new(alloc: Global, image: &'a FormatAccess<D>) -> Result<Self, Error>
         ensures disk { IfOk result (λ r. disk_of r ≡ image.now) }
         ensures part { IfOk result (HasPart D.view 0) }
     {
         Ok(Rest {
             runs: Runs::new(image)?,
+            reader: Reader::new(alloc, image),
+            run: None,
             data_end: 0,
             end: 0,
         })
@@ -62,7 +73,9 @@ impl<'a, D: FormatDriverInstance> Rest<'a, D> {
         if at < self.end {
             return Ok(());
         }
-        match self.runs.next_run()? {
+        let next = self.runs.next_run()?;
+        self.run = next;
+        match next {
             Some(run) => {
                 self.data_end = run.at + data_count(self.runs.image(), run);
                 self.end = run.at + run.count;
@@ -98,6 +111,22 @@ impl<'a, D: FormatDriverInstance> Rest<'a, D> {
             is_zero: true,
         })
     }
+
+    /// Fills the buffer with bytes of the run at hand, or with zeroes behind the disk.
+    fn read(&mut self, alloc: Global, buf: &mut [u8], at: u64) -> Result<(), Error>
+        requires part { HasPart D.view «at» self.old }
+        requires inside { at + length buf.old ≤ end_of self.old }
+        ensures disk { disk_of self.new ≡ disk_of self.old }
+        ensures end { end_of self.new ≡ end_of self.old }
+        ensures part { HasPart D.view «at» self.new }
+        ensures bytes { IsTrue (tells_bytes D.view (disk_of self.old)) → OnOk result
+            (IsPartOf (disk D.view (disk_of self.old)) «at» (length buf.old) buf.new) }
+    {
+        match self.run {
+            Some(run) => read_run(alloc, &mut self.reader, run, at - run.at, buf),
+            None => self.reader.read(alloc, buf, at),
+        }
+    }
 }
 
 /// The index of the first byte in which two buffers of one length differ.
@@ -117,26 +146,30 @@ fn first_unlike(left: &[u8], right: &[u8]) -> Option<usize>
     None
 }
 
-/// The first offset at which two disks differ, of as many from that one on as each buffer has.
+/// The first offset at which two disks differ, of as many from that one on as each buffer has,
+/// which are all of the runs at hand.
 fn unequal<D: FormatDriverInstance, E: FormatDriverInstance>(
     alloc: Global,
-    left: &mut Reader<'_, D>,
-    right: &mut Reader<'_, E>,
+    left: &mut Rest<'_, D>,
+    right: &mut Rest<'_, E>,
     at: u64,
     left_buf: &mut [u8],
     right_buf: &mut [u8],
 ) -> Result<Option<u64>, Error>
-    requires left { IsKeeping D.view left.old }
-    requires right { IsKeeping E.view right.old }
+    requires left { HasPart D.view at left.old }
+    requires right { HasPart E.view at right.old }
     requires lengths { length left_buf.old ≡ length right_buf.old }
-    requires fits { at + length left_buf.old < 2 ^ 64 }
-    ensures left { image_of left.new ≡ image_of left.old }
-    ensures right { image_of right.new ≡ image_of right.old }
-    ensures left_keeping { IsKeeping D.view left.new }
-    ensures right_keeping { IsKeeping E.view right.new }
-    ensures found { IsTrue (tells_bytes D.view (image_of left.old))
-        → IsTrue (tells_bytes E.view (image_of right.old)) → IfOk result (λ found.
-        IsDifferenceIn (disk D.view (image_of left.old)) (disk E.view (image_of right.old))
+    requires left_inside { at + length left_buf.old ≤ end_of left.old }
+    requires right_inside { at + length left_buf.old ≤ end_of right.old }
+    ensures left { disk_of left.new ≡ disk_of left.old }
+    ensures right { disk_of right.new ≡ disk_of right.old }
+    ensures left_end { end_of left.new ≡ end_of left.old }
+    ensures right_end { end_of right.new ≡ end_of right.old }
+    ensures left_part { HasPart D.view at left.new }
+    ensures right_part { HasPart E.view at right.new }
+    ensures found { IsTrue (tells_bytes D.view (disk_of left.old))
+        → IsTrue (tells_bytes E.view (disk_of right.old)) → IfOk result (λ found.
+        IsDifferenceIn (disk D.view (disk_of left.old)) (disk E.view (disk_of right.old))
         at (length left_buf.old) found) }
 {
     left.read(alloc, left_buf, at)?;
@@ -154,8 +187,9 @@ fn unequal<D: FormatDriverInstance, E: FormatDriverInstance>(
 /// no storage, and what lies behind the end of a storage. A storage is asked for its length when a
 /// run of it begins; where it refuses to tell it, all of the run is read. All else is read into the
 /// buffers and compared, a part at a time: at most as many bytes as either buffer has room for.
-/// Each image is read through a [`Reader`], so each block of special bytes is made up once; where a
-/// part cuts a block, memory is taken for that block.
+/// Stored bytes are read from the storage that their run names, and not mapped again. Special bytes
+/// are read through a [`Reader`], so each block of them is made up once; where a part cuts a block,
+/// memory is taken for that block.
 ///
 /// # Errors
 ///
@@ -178,22 +212,20 @@ pub fn first_difference<D: FormatDriverInstance, E: FormatDriverInstance>(
 {
     let size = left.size().max(right.size());
     let most = left_buf.len().min(right_buf.len()) as u64;
-    let mut one = Rest::new(left)?;
-    let mut other = Rest::new(right)?;
-    let mut left_reader = Reader::new(alloc, left);
-    let mut right_reader = Reader::new(alloc, right);
+    let mut one = Rest::new(alloc, left)?;
+    let mut other = Rest::new(alloc, right)?;
     let mut at: u64 = 0;
     while at < size {
         let here = one.part(at)?;
         let there = other.part(at)?;
         let mut end = here.end.min(there.end).min(size);
-        if !(here.is_zero && there.is_zero) {
+        if !are_zero(here, there) {
             end = end.min(at.saturating_add(most));
             let count = (end - at) as usize;
             let found = unequal(
                 alloc,
-                &mut left_reader,
-                &mut right_reader,
+                &mut one,
+                &mut other,
                 at,
                 &mut left_buf[..count],
                 &mut right_buf[..count],

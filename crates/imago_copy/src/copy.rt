@@ -1,6 +1,6 @@
 // SPDX-License-Identifier: MIT
 //! A disk, copied to a target.
-ghost use Rattle.std.specs.Prelude.{◌≡◌, ◌+◌, ◌<◌, ◌≤◌, ◌^◌, IsTrue, OnOk, OnErr, IfOk};
+ghost use Rattle.std.specs.Prelude.{◌≡◌, ◌+◌, ◌-◌, ◌<◌, ◌≤◌, ◌^◌, IsTrue, OnOk, OnErr, IfOk};
 ghost use Rattle.imago_access.specs.Chain.{disk_value, tells_bytes};
 ghost use Rattle.imago_access.specs.Disk.{disk};
 ghost use Rattle.imago_access.specs.ReaderOf.{image_of, IsKeeping};
@@ -10,6 +10,7 @@ ghost use Rattle.imago_copy.specs.Runs.{IsRunAt};
 
 use crate::ends::data_count;
 use crate::runs::{Run, Runs};
+use crate::stored::read_run;
 use crate::target::Target;
 use imago_access::access::FormatAccess;
 use imago_access::reader::Reader;
@@ -49,34 +50,37 @@ impl From<io::Error> for CopyError {
     }
 }
 
-/// Reads the first bytes of a range of the disk and puts them into the target: as many as the
-/// buffer has room for, and at most `most`. It answers how many.
+/// Reads bytes of a run, from that many of it on, and puts them into the target: as many as the
+/// buffer has room for, or all that are left. It answers how many.
 fn copy_first<D: FormatDriverInstance, T: Target>(
     alloc: Global,
     reader: &mut Reader<'_, D>,
     target: &mut T,
-    at: u64,
-    most: u64,
+    run: Run,
+    done: u64,
     buf: &mut [u8],
 ) -> Result<u64, CopyError>
-    requires { IsKeeping D.view reader.old }
+    requires keeping { IsKeeping D.view reader.old }
+    requires run { IsRunAt (leads_to D.view (image_of reader.old)) run.at run }
+    requires inside { run.at + run.count < 2 ^ 64 }
+    requires within { done ≤ run.count }
     ensures image { image_of reader.new ≡ image_of reader.old }
     ensures keeping { IsKeeping D.view reader.new }
-    ensures some { IfOk result (λ n. (0 < n) × (n ≤ most)) }
+    ensures some { IfOk result (λ n. (0 < n) × (n ≤ run.count - done)) }
     ensures same { T.made_for target.new ≡ T.made_for target.old }
     ensures put { IsTrue (tells_bytes D.view (image_of reader.old)) → IfOk result (λ n.
-        IsPut (disk_value D.view (image_of reader.old)) at n (T.contents target.old)
+        IsPut (disk_value D.view (image_of reader.old)) (run.at + done) n (T.contents target.old)
         (T.contents target.new)) }
     ensures refused { IsTrue (tells_bytes D.view (image_of reader.old)) → OnErr result
-        (IsPartlyPut (disk_value D.view (image_of reader.old)) at most (T.contents target.old)
-        (T.contents target.new)) }
+        (IsPartlyPut (disk_value D.view (image_of reader.old)) (run.at + done)
+        (run.count - done) (T.contents target.old) (T.contents target.new)) }
 {
-    let count = most.min(buf.len() as u64);
+    let count = (run.count - done).min(buf.len() as u64);
     if count == 0 {
         return Err(CopyError::Target(io::Error::from(ErrorKind::InvalidInput)));
     }
     let chunk = &mut buf[..count as usize];
-    reader.read(alloc, chunk, at)?;
+    read_run(alloc, reader, run, done, chunk)?;
     target.append(chunk)?;
     Ok(count)
 }
@@ -92,6 +96,7 @@ fn copy_data<D: FormatDriverInstance, T: Target>(
     buf: &mut [u8],
 ) -> Result<u64, CopyError>
     requires keeping { IsKeeping D.view reader.old }
+    requires run { IsRunAt (leads_to D.view (image_of reader.old)) run.at run }
     requires inside { run.at + run.count < 2 ^ 64 }
     requires within { least ≤ run.count }
     ensures image { image_of reader.new ≡ image_of reader.old }
@@ -108,7 +113,7 @@ fn copy_data<D: FormatDriverInstance, T: Target>(
 {
     let mut done: u64 = 0;
     while done < least {
-        done += copy_first(alloc, reader, target, run.at + done, run.count - done, buf)?;
+        done += copy_first(alloc, reader, target, run, done, buf)?;
     }
     Ok(done)
 }
@@ -154,8 +159,9 @@ fn copy_run<D: FormatDriverInstance, T: Target>(
 /// run of it begins; where it refuses to tell it, all of the run is read. Bytes that were read
 /// aren't tested for being zero.
 ///
-/// The image is read through a [`Reader`], so each block of special bytes is made up once, however
-/// large the buffer is; where a part cuts a block, memory is taken for that block.
+/// Stored bytes are read from the storage that the run names, and not mapped again. Special bytes
+/// are read through a [`Reader`], so each block of them is made up once, however large the buffer
+/// is; where a part cuts a block, memory is taken for that block.
 ///
 /// # Errors
 ///

@@ -1,9 +1,9 @@
 // SPDX-License-Identifier: MIT
 //! Where the storages of a disk end: what lies behind is zero, without a look at it.
-ghost use Rattle.std.specs.Prelude.{◌≡◌, ℕ, ◌+◌, ◌-◌, ◌<◌, ◌≤◌, ◌^◌, IfSome};
-ghost use Rattle.imago_access.specs.Chain.{disk_value};
+ghost use Rattle.std.specs.Prelude.{◌≡◌, ◌+◌, ◌-◌, ◌<◌, ◌≤◌, ◌^◌, IfSome, length};
+ghost use Rattle.imago_access.specs.Chain.{driver, disk_value};
 ghost use Rattle.imago_access.specs.Target.{target};
-ghost use Rattle.imago_copy.specs.Ends.{IsEndOf, AreZeroBehind};
+ghost use Rattle.imago_copy.specs.Ends.{IsEndOf, IsLayerAt, AreZeroBehind};
 ghost use Rattle.imago_copy.specs.Runs.{IsRunAt};
 
 use crate::runs::{Kind, Run};
@@ -11,15 +11,13 @@ use imago_access::access::FormatAccess;
 use imago_drivers::drivers::FormatDriverInstance;
 use imago_storage::storage::Storage;
 
-/// The layer that many layers below the top, if the chain goes as far. A storage of it ends for the
-/// whole chain where it ends for the layer itself.
-fn layer_at<D: FormatDriverInstance>(
+/// The layer that many layers below the top, if the chain goes as far. What offsets of the image
+/// lead to at that depth is what the layer itself has.
+pub(crate) fn layer_at<D: FormatDriverInstance>(
     image: &FormatAccess<D>,
     depth: usize,
 ) -> Option<&FormatAccess<D>>
-    ensures { IfSome result (λ layer. (storage n : ℕ)
-        → IsEndOf (target D.view layer.now) 0 storage n
-        → IsEndOf (target D.view image.now) depth storage n) }
+    ensures { IfSome result (λ layer. IsLayerAt D.view image.now depth layer.now) }
 {
     let mut layer = image;
     let mut done: usize = 0;
@@ -35,7 +33,8 @@ fn layer_at<D: FormatDriverInstance>(
 
 /// The length of a storage of the top layer, if it can be told.
 fn storage_end<D: FormatDriverInstance>(image: &FormatAccess<D>, storage: usize) -> Option<u64>
-    ensures { IfSome result (IsEndOf (target D.view image.now) 0 storage) }
+    ensures { IfSome result
+        (λ n. n ≡ length ((D.view (driver image.now)).stores.bytes storage)) }
 {
     match image.inner().storage(storage) {
         Some(storage) => storage.size().ok(),

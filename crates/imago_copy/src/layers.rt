@@ -5,11 +5,13 @@ ghost use Rattle.imago_access.specs.Chain.{driver};
 ghost use Rattle.imago_access.specs.Target.{target};
 ghost use Rattle.imago_copy.specs.declared.runs.Kind.TheVariants as Kind;
 ghost use Rattle.imago_copy.specs.LayerRuns.{GoesOn, IsLayerRunAt, IsLayerRestOf, IsNextLayerRun};
+ghost use Rattle.imago_copy.specs.WayOf.{IsWayIn};
 
 use crate::allocation::Allocation;
 use crate::runs::{Kind, Run};
+use crate::way::Way;
 use imago_access::access::FormatAccess;
-use imago_drivers::drivers::{FormatDriverInstance, ShallowMapping};
+use imago_drivers::drivers::FormatDriverInstance;
 use imago_storage::error::Error;
 
 /// A run of a disk, all of whose bytes the same layer has, or none.
@@ -23,7 +25,7 @@ pub struct LayerRun {
 
 impl LayerRun {
     /// That many bytes from an offset on, all of a kind, and of the layer that has them.
-    fn new(at: u64, count: u64, kind: Kind, allocation: Allocation) -> Self
+    pub(crate) fn new(at: u64, count: u64, kind: Kind, allocation: Allocation) -> Self
         ensures { result ≡ record {
           run = record { at = at; count = count; kind = kind };
           allocation = allocation;
@@ -57,91 +59,33 @@ impl LayerRun {
     }
 }
 
-/// What the first bytes of a range inside the disk are, and which layer has them: as many bytes as
-/// the drivers on the way down map at once.
-pub(crate) fn first_run<D: FormatDriverInstance>(
-    image: &FormatAccess<D>,
-    at: u64,
-    most: u64,
-) -> Result<LayerRun, Error>
-    requires { 0 < most }
-    ensures run { IfOk result (λ r. IsLayerRunAt (target D.view image.now) «at» r) }
-    ensures within { IfOk result (λ r. r.run.count ≤ most) }
-{
-    let mut layer = image;
-    let mut depth: usize = 0;
-    let mut offset = at;
-    let mut left = most;
-    loop {
-        let (mapping, count) = layer.get_shallow_mapping(offset, left)?;
-        match mapping {
-            ShallowMapping::Indirect {
-                offset: below_at,
-                ..
-            } => match layer.backing() {
-                None => {
-                    let none = Allocation::in_none(depth.saturating_add(1));
-                    return Ok(LayerRun::new(at, count, Kind::Zero, none));
-                }
-                Some(below) => {
-                    layer = below;
-                    depth = depth.saturating_add(1);
-                    offset = below_at;
-                    left = count;
-                }
-            },
-            ShallowMapping::Eof => {
-                if depth == 0 {
-                    return Err(Error::Unsupported);
-                }
-                let none = Allocation::in_none(depth);
-                return Ok(LayerRun::new(at, left, Kind::Zero, none));
-            }
-            ShallowMapping::Zero { .. } => {
-                let own = Allocation::in_layer(depth);
-                return Ok(LayerRun::new(at, count, Kind::Zero, own));
-            }
-            ShallowMapping::Raw {
-                storage,
-                offset,
-                ..
-            } => {
-                let kind = Kind::Stored {
-                    layer: depth,
-                    storage,
-                    offset,
-                };
-                return Ok(LayerRun::new(at, count, kind, Allocation::in_layer(depth)));
-            }
-            ShallowMapping::Special { offset } => {
-                let kind = Kind::Special {
-                    layer: depth,
-                    offset,
-                };
-                return Ok(LayerRun::new(at, count, kind, Allocation::in_layer(depth)));
-            }
-        }
-    }
-}
-
 /// The run that begins at an offset inside the disk, as far as one mapping goes.
-fn mapped_run<D: FormatDriverInstance>(image: &FormatAccess<D>, at: u64) -> Result<LayerRun, Error>
-    requires { at < (D.view (driver image.now)).size }
+fn mapped_run<'a, D: FormatDriverInstance>(
+    image: &'a FormatAccess<D>,
+    way: &mut Way<'a, D>,
+    at: u64,
+) -> Result<LayerRun, Error>
+    requires inside { at < (D.view (driver image.now)).size }
+    requires way { IsWayIn D.view image.now way.old }
+    ensures way { IsWayIn D.view image.now way.new }
     ensures run { IfOk result (λ r. IsLayerRunAt (target D.view image.now) «at» r) }
     ensures inside { IfOk result
         (λ r. at + r.run.count ≤ (D.view (driver image.now)).size) }
 {
-    first_run(image, at, image.size() - at)
+    way.first_run(image, at, image.size() - at)
 }
 
 /// The run that begins as that one, as far as it goes on; and the first mapping of the next one, if
 /// the disk doesn't end there.
-fn longest<D: FormatDriverInstance>(
-    image: &FormatAccess<D>,
+fn longest<'a, D: FormatDriverInstance>(
+    image: &'a FormatAccess<D>,
+    way: &mut Way<'a, D>,
     first: LayerRun,
 ) -> Result<(LayerRun, Option<LayerRun>), Error>
+    requires way { IsWayIn D.view image.now way.old }
     requires run { IsLayerRunAt (target D.view image.now) first.run.at first }
     requires inside { first.run.at + first.run.count ≤ (D.view (driver image.now)).size }
+    ensures way { IsWayIn D.view image.now way.new }
     ensures run { IfOk result
         (λ r. IsLayerRunAt (target D.view image.now) first.run.at r.0) }
     ensures rest { IfOk result
@@ -154,7 +98,7 @@ fn longest<D: FormatDriverInstance>(
     let size = image.size();
     let mut run = first;
     while run.run.at + run.run.count < size {
-        let next = mapped_run(image, run.run.at + run.run.count)?;
+        let next = mapped_run(image, way, run.run.at + run.run.count)?;
         if !run.goes_on(next) {
             return Ok((run, Some(next)));
         }
@@ -175,6 +119,8 @@ pub struct LayerRuns<'a, D> {
     at: u64,
     /// Its first mapping, if the disk doesn't end there.
     next: Option<LayerRun>,
+    /// The way of what comes behind that mapping.
+    way: Way<'a, D>,
 }
 
 impl<'a, D: FormatDriverInstance> LayerRuns<'a, D> {
@@ -187,11 +133,17 @@ impl<'a, D: FormatDriverInstance> LayerRuns<'a, D> {
         ensures start { IfOk result (λ r. at_of r ≡ 0) }
         ensures ready { IfOk result (AreReady D.view) }
     {
+        let mut way = Way::new(image);
         let mut next = None;
         if image.size() > 0 {
-            next = Some(mapped_run(image, 0)?);
+            next = Some(mapped_run(image, &mut way, 0)?);
         }
-        Ok(LayerRuns { image, at: 0, next })
+        Ok(LayerRuns {
+            image,
+            at: 0,
+            next,
+            way,
+        })
     }
 
     /// The next run, or `None` at the end of the disk.
@@ -213,9 +165,11 @@ impl<'a, D: FormatDriverInstance> LayerRuns<'a, D> {
         let Some(first) = self.next else {
             return Ok(None);
         };
-        let (run, next) = longest(self.image, first)?;
+        let mut way = self.way.again();
+        let (run, next) = longest(self.image, &mut way, first)?;
         self.at += run.run.count;
         self.next = next;
+        self.way = way;
         Ok(Some(run))
     }
 }

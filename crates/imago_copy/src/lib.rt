@@ -15,4 +15,6 @@ pub mod copy;
 pub mod ends;
 pub mod layers;
 pub mod runs;
+mod stored;
 pub mod target;
+mod way;

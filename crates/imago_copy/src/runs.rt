@@ -5,10 +5,11 @@ ghost use Rattle.std.specs.Prelude.{IfOk, IfErr, IfSome};
 ghost use Rattle.imago_access.specs.Chain.{driver};
 ghost use Rattle.imago_access.specs.Target.{target};
 ghost use Rattle.imago_copy.specs.declared.runs.Kind.TheVariants as Kind;
-ghost use Rattle.imago_copy.specs.Runs.{named_kind, goes_on, IsRunAt, IsRestOf, IsNextRun};
+ghost use Rattle.imago_copy.specs.Runs.{goes_on, IsRunAt, IsRestOf, IsNextRun};
+ghost use Rattle.imago_copy.specs.WayOf.{IsWayIn};
 
+use crate::way::Way;
 use imago_access::access::FormatAccess;
-use imago_access::mapping::Mapping;
 use imago_drivers::drivers::FormatDriverInstance;
 use imago_storage::error::Error;
 
@@ -46,27 +47,6 @@ pub struct Run {
     pub count: u64,
     /// What they are.
     pub kind: Kind,
-}
-
-/// What a mapping names: nothing where it is the end of the image.
-fn kind_of(mapping: Mapping) -> Option<Kind>
-    ensures { result ≡ named_kind mapping }
-{
-    match mapping {
-        Mapping::Raw {
-            layer,
-            storage,
-            offset,
-            ..
-        } => Some(Kind::Stored {
-            layer,
-            storage,
-            offset,
-        }),
-        Mapping::Zero { .. } => Some(Kind::Zero),
-        Mapping::Special { layer, offset } => Some(Kind::Special { layer, offset }),
-        Mapping::Eof => None,
-    }
 }
 
 impl Kind {
@@ -121,26 +101,31 @@ impl Run {
 }
 
 /// The run that begins at an offset inside the disk, as far as one mapping goes.
-fn mapped_run<D: FormatDriverInstance>(image: &FormatAccess<D>, at: u64) -> Result<Run, Error>
-    requires { at < (D.view (driver image.now)).size }
+fn mapped_run<'a, D: FormatDriverInstance>(
+    image: &'a FormatAccess<D>,
+    way: &mut Way<'a, D>,
+    at: u64,
+) -> Result<Run, Error>
+    requires inside { at < (D.view (driver image.now)).size }
+    requires way { IsWayIn D.view image.now way.old }
+    ensures way { IsWayIn D.view image.now way.new }
     ensures run { IfOk result (λ r. IsRunAt (target D.view image.now) «at» r) }
     ensures inside { IfOk result (λ r. at + r.count ≤ (D.view (driver image.now)).size) }
 {
-    let (mapping, count) = image.get_mapping(at, image.size() - at)?;
-    match kind_of(mapping) {
-        Some(kind) => Ok(Run { at, count, kind }),
-        None => Err(Error::Unsupported),
-    }
+    Ok(way.first_run(image, at, image.size() - at)?.run)
 }
 
 /// The run that begins as that one, as far as it goes on; and the first mapping of the next one, if
 /// the disk doesn't end there.
-fn longest<D: FormatDriverInstance>(
-    image: &FormatAccess<D>,
+fn longest<'a, D: FormatDriverInstance>(
+    image: &'a FormatAccess<D>,
+    way: &mut Way<'a, D>,
     first: Run,
 ) -> Result<(Run, Option<Run>), Error>
+    requires way { IsWayIn D.view image.now way.old }
     requires run { IsRunAt (target D.view image.now) first.at first }
     requires inside { first.at + first.count ≤ (D.view (driver image.now)).size }
+    ensures way { IsWayIn D.view image.now way.new }
     ensures run { IfOk result (λ r. IsRunAt (target D.view image.now) first.at r.0) }
     ensures kind { IfOk result (λ r. r.0.kind ≡ first.kind) }
     ensures rest { IfOk result
@@ -154,7 +139,7 @@ fn longest<D: FormatDriverInstance>(
     let size = image.size();
     let mut run = first;
     while run.at + run.count < size {
-        let next = mapped_run(image, run.at + run.count)?;
+        let next = mapped_run(image, way, run.at + run.count)?;
         if !run.kind.goes_on(run.count, next.kind) {
             return Ok((run, Some(next)));
         }
@@ -165,7 +150,8 @@ fn longest<D: FormatDriverInstance>(
 
 /// The runs of a disk, from its start to its end: no run goes on as the one behind it.
 ///
-/// Each mapping of the image is asked for once, and no more is kept than one that is still to come.
+/// Each mapping of the image is asked for once, of the layers that have it and those above whose
+/// own mapping ended before; no more is kept than one that is still to come.
 /// What a run is follows from where its bytes stand alone: no byte is read, and no storage is asked
 /// for its length. So a run that passes the end of its storage goes on there as stored.
 #[derive(Drop)]
@@ -175,6 +161,8 @@ pub struct Runs<'a, D> {
     at: u64,
     /// Its first mapping, if the disk doesn't end there.
     next: Option<Run>,
+    /// The way of what comes behind that mapping.
+    way: Way<'a, D>,
 }
 
 impl<'a, D: FormatDriverInstance> Runs<'a, D> {
@@ -187,11 +175,17 @@ impl<'a, D: FormatDriverInstance> Runs<'a, D> {
         ensures start { IfOk result (λ r. at_of r ≡ 0) }
         ensures ready { IfOk result (IsReady D.view) }
     {
+        let mut way = Way::new(image);
         let mut next = None;
         if image.size() > 0 {
-            next = Some(mapped_run(image, 0)?);
+            next = Some(mapped_run(image, &mut way, 0)?);
         }
-        Ok(Runs { image, at: 0, next })
+        Ok(Runs {
+            image,
+            at: 0,
+            next,
+            way,
+        })
     }
 
     /// The image whose disk it is.
@@ -224,9 +218,11 @@ impl<'a, D: FormatDriverInstance> Runs<'a, D> {
         let Some(first) = self.next else {
             return Ok(None);
         };
-        let (run, next) = longest(self.image, first)?;
+        let mut way = self.way.again();
+        let (run, next) = longest(self.image, &mut way, first)?;
         self.at += run.count;
         self.next = next;
+        self.way = way;
         Ok(Some(run))
     }
 }

@@ -14,6 +14,7 @@ loop-count-preserved g c =
     record {
       some = omega (arith, l.invariant.some);
       within = omega (arith, next.ensures.within, l.invariant.within);
+      way = next.ensures.way;
       allocated = more_allocated leads c.args.at l.count next.next.run.count c.in_ok-first.first.allocation next.next.allocation l.invariant.allocated next.ensures.run.1 same;
     }
 

@@ -2,7 +2,6 @@
 use Rattle.std.proofs.Common.{◌≡◌, ◌-◌, ◌≤◌, IsTrue}
 use Rattle.imago_access.specs.Chain.{tells_bytes}
 use Rattle.imago_access.specs.Disk.{disk}
-use Rattle.imago_access.specs.ReaderOf.{image_of, IsKeeping}
 use Rattle.imago_copy.specs.Compared.{AreSameIn}
 use Rattle.imago_copy.specs.RestOf.{disk_of, HasPart}
 use Rattle.imago_copy.proofs.compare.first_difference.Given as goal
@@ -13,10 +12,6 @@ invariant-loop-at g l =
     let right = g.E.FormatDriverInstance.view in
     record {
       within : l.at ≤ l.size;
-      left_image : image_of l.left_reader ≡ l.left;
-      right_image : image_of l.right_reader ≡ l.right;
-      left_keeping : IsKeeping left l.left_reader;
-      right_keeping : IsKeeping right l.right_reader;
       one : disk_of l.one ≡ l.left;
       other : disk_of l.other ≡ l.right;
       one_part : HasPart left l.at l.one;

@@ -1,10 +1,8 @@
 -- SPDX-License-Identifier: MIT
-use Rattle.std.proofs.Common.{arith, ◌≤◌}
-use Rattle.imago_copy.proofs.EndSteps.{told_here}
+use Rattle.std.proofs.Common.{ap, ◌∙◌}
+use Rattle.imago_copy.proofs.EndSteps.{told_length}
 use Rattle.imago_copy.proofs.ends.storage_end.Goals as goal
 
 pub returns-in-Some : goal.returns-in-Some
 returns-in-Some g c =
-    let top : 0 ≤ 0 = omega arith in
-    told_here g.D.FormatDriverInstance.view g.met.D.FormatDriverInstance.lawful c.args.image.now c.inner.result.now 0 c.args.storage _ c.ok.result c.size.result top
-    c.inner.ensures c.in-Some.ensures.1 c.ok.ensures.value c.size.ensures.value
+    told_length c.ok.result c.size.result _ _ c.ok.ensures.value (c.in-Some.ensures.1 ∙ ap (λ d. (g.D.FormatDriverInstance.view d).stores.bytes c.args.storage) c.inner.ensures) c.size.ensures.value

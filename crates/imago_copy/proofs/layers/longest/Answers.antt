@@ -18,5 +18,6 @@ loop-run-preserved g c =
       size = l.invariant.size;
       at = l.invariant.at;
       inside = omega (arith, inside);
+      way = c.in_ok-next.ensures.way;
       run = joined;
     })

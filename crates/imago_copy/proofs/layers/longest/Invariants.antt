@@ -3,6 +3,7 @@ use Rattle.std.proofs.Common.{◌≡◌, ◌+◌, ◌-◌, ◌≤◌}
 use Rattle.imago_access.specs.Chain.{driver}
 use Rattle.imago_access.specs.Target.{target}
 use Rattle.imago_copy.specs.LayerRuns.{IsLayerRunAt}
+use Rattle.imago_copy.specs.WayOf.{IsWayIn}
 use Rattle.imago_copy.proofs.layers.longest.Given as goal
 
 abbrev pub invariant-loop-run : goal.invariant-loop-run
@@ -12,6 +13,7 @@ invariant-loop-run g l =
       size : l.size ≡ (view (driver l.image)).size;
       at : l.run.run.at ≡ l.fn.first.run.at;
       inside : l.run.run.at + l.run.run.count ≤ l.size;
+      way : IsWayIn view l.image l.way;
       run : IsLayerRunAt (target view l.image) l.run.run.at l.run;
     }
 

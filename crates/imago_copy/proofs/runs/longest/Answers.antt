@@ -19,5 +19,6 @@ loop-run-preserved g c =
       at = l.invariant.at;
       kind = l.invariant.kind;
       inside = omega (arith, inside);
+      way = c.in_ok-next.ensures.way;
       run = joined;
     })

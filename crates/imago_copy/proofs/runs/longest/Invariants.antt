@@ -3,6 +3,7 @@ use Rattle.std.proofs.Common.{◌≡◌, ◌+◌, ◌-◌, ◌≤◌}
 use Rattle.imago_access.specs.Chain.{driver}
 use Rattle.imago_access.specs.Target.{target}
 use Rattle.imago_copy.specs.Runs.{IsRunAt}
+use Rattle.imago_copy.specs.WayOf.{IsWayIn}
 use Rattle.imago_copy.proofs.runs.longest.Given as goal
 
 abbrev pub invariant-loop-run : goal.invariant-loop-run
@@ -13,6 +14,7 @@ invariant-loop-run g l =
       at : l.run.at ≡ l.fn.first.at;
       kind : l.run.kind ≡ l.fn.first.kind;
       inside : l.run.at + l.run.count ≤ l.size;
+      way : IsWayIn view l.image l.way;
       run : IsRunAt (target view l.image) l.run.at l.run;
     }
 
