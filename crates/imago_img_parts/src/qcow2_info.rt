@@ -271,7 +271,7 @@ fn names_below(
 }
 
 /// What a file with that first cluster says of the one in which its data stand. Only those of
-/// version 3 do. A name that isn't UTF-8 isn't told.
+/// version 3 do. What isn't UTF-8 in its name is told as U+FFFD, as by `qemu-img`.
 fn data_file_of(
     alloc: Global,
     cluster: &[u8],
@@ -279,7 +279,9 @@ fn data_file_of(
     is_used: bool,
 ) -> Result<DataFile, AllocError> {
     let name = match data_name(cluster, &head.bytes) {
-        Some((_, name)) if head.header.version() >= 3 => text_if_any(alloc, name)?,
+        Some((_, name)) if head.header.version() >= 3 => {
+            Some(String::from_utf8_lossy(alloc, name)?)
+        }
         _ => None,
     };
     Ok(DataFile {
@@ -308,14 +310,6 @@ fn names_in<F: HostFile>(
     let data_file = data_file_of(alloc, &cluster, head, is_used)?;
     let below = names_below(alloc, path, cluster, head, others)?;
     Ok((below, data_file))
-}
-
-/// The text of a name, if it is one.
-fn text_if_any(alloc: Global, name: &[u8]) -> Result<Option<String>, AllocError> {
-    match str::from_utf8(name) {
-        Ok(text) => Ok(Some(String::from_str(alloc, text)?)),
-        Err(_) => Ok(None),
-    }
 }
 
 /// The path that a name stands for which the file of that path has, if it is a file's.

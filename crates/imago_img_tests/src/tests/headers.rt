@@ -271,11 +271,14 @@ const DATA_NAMES: Parts = &[
     (136, b"DATA\0\0\0\x07y\x1b.data"),
 ];
 
+/// One whose name isn't UTF-8.
+const DATA_NAME_BYTES: Parts = &[(79, b"\x04"), (104, b"DATA\0\0\0\x06\xff.data")];
+
 /// What `info` prints of files that aren't opened: one that was left open, is corrupt, and has
 /// extended L2 entries and bit 9, and one that is encrypted and corrupt. Then of files with
 /// external data: as `qemu-img` 7.2, the name is told where the header has it, and whether it is
 /// raw where the data stand there. The last two are opened.
-static TOLD_UNOPENED: [(Parts, &str); 6] = [
+static TOLD_UNOPENED: [(Parts, &str); 7] = [
     (
         &[(78, b"\x02\x13")],
         "image: \"a\"\nfile format: qcow2\nvirtual size: 2 KiB (2048 bytes)\ndisk size: 2 KiB\n\
@@ -301,6 +304,15 @@ static TOLD_UNOPENED: [(Parts, &str); 6] = [
         cluster_size: 512\nFormat specific information:\n\x20   compat: 1.1\n\
         \x20   compression type: zlib\n\x20   lazy refcounts: false\n\x20   refcount bits: 16\n\
         \x20   data file: \"y\\u{1b}.data\"\n\x20   data file raw: true\n\
+        \x20   corrupt: false\n\x20   extended l2: false\n\
+        can't be opened: the header says external data file, which isn't supported\n",
+    ),
+    (
+        DATA_NAME_BYTES,
+        "image: \"a\"\nfile format: qcow2\nvirtual size: 2 KiB (2048 bytes)\ndisk size: 2 KiB\n\
+        cluster_size: 512\nFormat specific information:\n\x20   compat: 1.1\n\
+        \x20   compression type: zlib\n\x20   lazy refcounts: false\n\x20   refcount bits: 16\n\
+        \x20   data file: \"\u{fffd}.data\"\n\x20   data file raw: false\n\
         \x20   corrupt: false\n\x20   extended l2: false\n\
         can't be opened: the header says external data file, which isn't supported\n",
     ),
@@ -351,6 +363,15 @@ const TOLD_DATA: &str = "{ \"filename\": \"a\", \"format\": \"qcow2\", \"virtual
     \"corrupt\": false, \"extended-l2\": false } }, \"unsupported\": \
     [\"the header says external data file, which isn't supported\"] }\n";
 
+/// What it prints of one whose name isn't UTF-8.
+const TOLD_DATA_BYTES: &str = "{ \"filename\": \"a\", \"format\": \"qcow2\", \
+    \"virtual-size\": 2048, \"actual-size\": 2048, \"cluster-size\": 512, \
+    \"dirty-flag\": false, \"format-specific\": { \"type\": \"qcow2\", \"data\": { \
+    \"compat\": \"1.1\", \"compression-type\": \"zlib\", \"refcount-bits\": 16, \
+    \"data-file\": \"\u{fffd}.data\", \"data-file-raw\": false, \"lazy-refcounts\": false, \
+    \"corrupt\": false, \"extended-l2\": false } }, \"unsupported\": \
+    [\"the header says external data file, which isn't supported\"] }\n";
+
 /// Two snapshots in a table at 1024. The first one has 8 bytes besides, and its name isn't UTF-8.
 const SNAPSHOTS: Parts = &[
     (35, b"\x02"),
@@ -375,6 +396,7 @@ fn images_that_arent_opened_are_told(rt: HostRuntime) {
     let line = "info --json -f qcow2 a";
     check_changed(&rt, rt.alloc(), SNAPSHOTS, line, (0, TOLD_JSON, ""));
     check_changed(&rt, rt.alloc(), DATA_NAMES, line, (0, TOLD_DATA, ""));
+    check_changed(&rt, rt.alloc(), DATA_NAME_BYTES, line, (0, TOLD_DATA_BYTES, ""));
     let refused = "imago-img: \"a\": the header says external data file, which isn't supported\n";
     let line = "info --alone -f qcow2 a";
     check_changed(&rt, rt.alloc(), DATA_NAMES, line, (1, "", refused));
