@@ -19,7 +19,7 @@ use Rattle.imago_qcow2.specs.declared.table.HeldTable.{HeldTable}
 use Rattle.imago_qcow2.specs.Tables.{says_entry, AreEntriesRead}
 use Rattle.imago_qcow2.specs.Opening.{read_reasons, entries_reasons, tables_reasons}
 use Rattle.imago_qcow2.proofs.TableSteps.{table_refused, entries_refused}
-use Rattle.imago_qcow2.specs.Limit.{IsBeyond, IsWithin, HasRoom, has_offset, with_offset, with_table, table_offsets, IsAccount, NeedMore}
+use Rattle.imago_qcow2.specs.Limit.{IsBeyond, IsWithin, HasRoom, has_offset, with_offset, with_table, table_offsets, IsAccount, NeedMore, AreReadWithin, tables_length}
 
 -- what is left behind more bytes
 pub room_more : (limit room now : Option ℕ) (a b : ℕ) → HasRoom limit a room → HasRoom room b now → HasRoom limit (a + b) now
@@ -34,6 +34,12 @@ pub beyond_more : (limit room : Option ℕ) (a b : ℕ) → HasRoom limit a room
 beyond_more None room a b h k = let e : IsBeyond None b = subst (λ r. IsBeyond r b) h k in e
 beyond_more (Some most) room a b h k =
     let e : IsBeyond (Some (most - a)) b = subst (λ r. IsBeyond r b) (h.1) k in
+    omega (arith, h.0, e)
+
+pub within_more : (limit room : Option ℕ) (a b : ℕ) → HasRoom limit a room → IsWithin room b → IsWithin limit (a + b)
+within_more None room a b h k = tt
+within_more (Some most) room a b h k =
+    let e : IsWithin (Some (most - a)) b = subst (λ r. IsWithin r b) (h.1) k in
     omega (arith, h.0, e)
 
 pub within_room : (limit room : Option ℕ) (a : ℕ) → HasRoom limit a room → IsWithin limit a
@@ -197,6 +203,12 @@ module _ (f : Features) (bytes : List ℕ) (start count cluster : ℕ) (entries 
   count_fault O.TablesTooLarge h =
       let x : IsBeyond room (cluster * length (table_offsets bytes cluster entries count)) = rw entries_are at h in
       inr (entries, read, beyond_more most room (8 * count) (cluster * length (table_offsets bytes cluster entries count)) left x)
+
+  -- those that were counted
+  pub read_within : IsWithin room (cluster * length (table_offsets bytes cluster entries (length entries / 8))) → AreReadWithin f bytes start count cluster most
+  read_within h =
+      let x : IsWithin room (cluster * length (table_offsets bytes cluster entries count)) = rw entries_are at h in
+      (entries, read, within_more most room (8 * count) (cluster * length (table_offsets bytes cluster entries count)) left x)
 
   pub tables_within : (l : Loaded) (l1 : List HeldTable) → length l1 ≡ length entries / 8 → IsAccount (table_offsets bytes cluster entries (length entries / 8)) room cluster l
       → IsWithin most (8 * length l1 + cluster * length l.tables.items)

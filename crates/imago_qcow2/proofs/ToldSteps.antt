@@ -1,6 +1,6 @@
 -- What was loaded of a file that tells its bytes is what these say.
 -- SPDX-License-Identifier: MIT
-use Rattle.std.proofs.Common.{◌≡◌, true, ℕ, ◌+◌, ◌*◌, ◌/◌, ◌%◌, ◌<◌, ◌≤◌, ◌⊎◌, ⊎_elim, inl, inr, List, length, Option, Some, None, Ok, Err, refl, sym, ap, ◌∙◌, arith}
+use Rattle.std.proofs.Common.{◌≡◌, true, ℕ, zero, suc, subst, ◌+◌, ◌*◌, ◌/◌, ◌%◌, ◌<◌, ◌≤◌, ◌⊎◌, ⊎_elim, inl, inr, List, length, Option, Some, None, Ok, Err, refl, sym, ap, ◌∙◌, arith}
 use Rattle.std.specs.Prelude.{slice_index, slice_get, IfSome, IsTrue, IsOk}
 use Rattle.std.specs.Int.{div_ceil}
 use Rattle.std.specs.declared.sync.ArcSlice.{ArcSlice}
@@ -27,6 +27,7 @@ use Rattle.imago_qcow2.specs.Header.{header_of, own_length, compression_of, IsSo
 use Rattle.imago_qcow2.specs.Entry.{version_of, disk_size, l1_start, cluster_length, per_table, table_in_entry, cluster_in_entry, l1_entry, table_of, cluster_by, cluster_of, place_by, disk_place, disk_of, qcow2_place}
 use Rattle.imago_qcow2.specs.Tables.{AreTables, LoadedImage, loaded_of, entry_cluster, held_cluster, loaded_cluster, loaded_disk, loaded_place, header_cluster, header_tables, says_entry, IsHeadRead, IsAccepted, AreEntriesRead, IsHeld, IsLoadedImage}
 use Rattle.imago_qcow2.specs.Opening.{table_count, TablesWrap, EntryWraps, start_reasons, header_reasons, tables_reasons, open_reasons, IsRefusedAsRead, IsRefusedOpening}
+use Rattle.imago_qcow2.specs.Limit.{IsWithin, with_table, table_offsets, tables_length, file_offsets, file_tables, AreReadWithin, HasTablesWithin}
 use Rattle.imago_qcow2.specs.Qcow2Laws.{packed_of, in_disk, past_disk, place_in, place_out}
 use Rattle.imago_qcow2.proofs.NumberSteps.{read64}
 use Rattle.imago_qcow2.proofs.HeaderSteps.{header_same, sound_same, head_same}
@@ -76,6 +77,33 @@ module _ (f : Features) (bytes : List ℕ) (told : IsTrue f.tells_bytes) where
     told_says entries y i inside =
         let number : be64 entries (8 * i) ≡ l1_entry bytes i = read64 bytes entries h.l1_start (y.read told) (8 * i) inside ∙ ap (λ s. be64 bytes (s + 8 * i)) told_sound.start in
         ap (table_in_entry (length bytes) (header_cluster h)) number ∙ ap (λ c. table_in_entry (length bytes) c (l1_entry bytes i)) told_cluster
+
+    -- the L2 tables that the first entries name
+    told_offsets : (entries : List ℕ) → AreEntriesRead f bytes h.l1_start (header_tables h) entries → (n : ℕ) → 8 * n ≤ length entries
+        → table_offsets bytes (header_cluster h) entries n ≡ file_offsets bytes n
+    unfolding table_offsets file_offsets
+    told_offsets entries y zero inside = refl
+    told_offsets entries y (suc n) inside =
+        ap (λ (says : L2Table). with_table says (table_offsets bytes (header_cluster h) entries n)) (told_says entries y n (omega (arith, inside)))
+        ∙ ap (with_table (table_of bytes n)) (told_offsets entries y n (omega (arith, inside)))
+
+    -- how many bytes all tables have
+    told_length : (entries : List ℕ) → AreEntriesRead f bytes h.l1_start (header_tables h) entries → tables_length bytes (header_cluster h) entries (header_tables h) ≡ file_tables bytes
+    unfolding file_tables
+    told_length entries y =
+        let all : 8 * header_tables h ≤ length entries = omega (arith, y.len) in
+        let named : table_offsets bytes (header_cluster h) entries (header_tables h) ≡ file_offsets bytes (table_count bytes) =
+        told_offsets entries y (header_tables h) all ∙ ap (file_offsets bytes) told_count in
+        ap (λ (os : List ℕ). 8 * header_tables h + header_cluster h * length os) named
+        ∙ ap (λ (n : ℕ). 8 * n + header_cluster h * length (file_offsets bytes (table_count bytes))) told_count
+        ∙ ap (λ (c : ℕ). 8 * table_count bytes + c * length (file_offsets bytes (table_count bytes))) told_cluster
+
+    -- the tables of the file are within the limit, by other names of what the header says
+    pub told_within : (count cluster : ℕ) (most : Option ℕ) → count ≡ header_tables h → cluster ≡ header_cluster h → AreReadWithin f bytes h.l1_start count cluster most → HasTablesWithin most bytes
+    told_within count cluster most a b w =
+        let (entries, y, within) = subst (λ (c : ℕ). AreReadWithin f bytes h.l1_start (header_tables h) c most) b
+        (subst (λ (n : ℕ). AreReadWithin f bytes h.l1_start n cluster most) a w) in
+        subst (IsWithin most) (told_length entries y) within
 
     told_entry_wraps : (entries : List ℕ) → AreEntriesRead f bytes h.l1_start (header_tables h) entries → EntryWraps f bytes (header_cluster h) entries → TablesWrap f bytes
     told_entry_wraps entries y (i, at, inside, says, wraps) =

@@ -12,6 +12,8 @@ use Rattle.imago_qcow2.specs.declared.entry.L2Table.TheVariants as T
 use Rattle.imago_qcow2.specs.declared.table.Loaded.{Loaded}
 use Rattle.imago_qcow2.specs.Tables.{LoadedImage, says_entry, header_cluster, header_tables}
 use Rattle.imago_qcow2.specs.Tables.{AreEntriesRead, IsAccepted}
+use Rattle.imago_qcow2.specs.Entry.{cluster_length, table_of}
+use Rattle.imago_qcow2.specs.Opening.{table_count}
 
 -- so many bytes are more than a limit, where there is one
 abbrev pub IsBeyond : Option ℕ → ℕ → Type 0
@@ -54,6 +56,27 @@ table_offsets bytes cluster entries (suc n) =
 abbrev pub tables_length : List ℕ → ℕ → List ℕ → ℕ → ℕ
 tables_length bytes cluster entries count =
     8 * count + cluster * length (table_offsets bytes cluster entries count)
+
+-- the tables of the file that were read, from the start on, have no more bytes than the limit
+abbrev pub AreReadWithin : Features → List ℕ → ℕ → ℕ → ℕ → Option ℕ → Type 0
+AreReadWithin f bytes start count cluster most = (entries : List ℕ)
+    × AreEntriesRead f bytes start count entries
+    × IsWithin most (tables_length bytes cluster entries count)
+
+-- the offsets of the L2 tables that the first L1 entries of an image's file name, each once
+unfoldable pub file_offsets : List ℕ → ℕ → List ℕ
+file_offsets bytes zero = []
+file_offsets bytes (suc n) = with_table (table_of bytes n) (file_offsets bytes n)
+
+-- How many bytes the tables have that the disk of an image needs, by the bytes of its file: 8 for
+-- each L1 entry, and a cluster for each L2 table that the entries name, counted once.
+unfoldable pub file_tables : List ℕ → ℕ
+file_tables bytes = 8 * table_count bytes
+    + cluster_length bytes * length (file_offsets bytes (table_count bytes))
+
+-- the tables of an image's file have no more bytes than the limit, where there is one
+abbrev pub HasTablesWithin : Option ℕ → List ℕ → Type 0
+HasTablesWithin most bytes = IsWithin most (file_tables bytes)
 
 -- how many bytes the tables have that were loaded of an image
 abbrev pub loaded_length : LoadedImage → ℕ

@@ -14,7 +14,8 @@ ghost use Rattle.imago_qcow2.specs.Absent.{IsAbsentIndex};
 ghost use Rattle.imago_qcow2.specs.Entry.{cluster_length, cluster_of, disk_size};
 ghost use Rattle.imago_qcow2.specs.Fault.{by_fault};
 ghost use Rattle.imago_qcow2.specs.Header.{header_of, NamesBacking};
-ghost use Rattle.imago_qcow2.specs.Limit.{IsWithin, loaded_length, TablesNeedMore};
+ghost use Rattle.imago_qcow2.specs.Limit.{IsWithin, loaded_length, HasTablesWithin};
+ghost use Rattle.imago_qcow2.specs.Limit.{TablesNeedMore};
 ghost use Rattle.imago_qcow2.specs.Tables.{IsHeadRead, IsAccepted, IsLoadedImage};
 ghost use Rattle.imago_qcow2.specs.Tables.{header_cluster, loaded_cluster, loaded_of, loaded_place};
 ghost use Rattle.imago_qcow2.specs.Tables.{loaded_disk};
@@ -165,6 +166,8 @@ impl<S: Storage> Qcow2<S> {
             (λ d. (storage_in d ≡ «storage»)
             × IsOpened (S.features storage) (S.bytes storage) (header_in d)) }
         ensures within { IfOk result (λ d. loaded_length (loaded_in d) ≤ most_tables) }
+        ensures told { IsTrue (S.features storage).tells_bytes
+            → OnOk result (HasTablesWithin (Some most_tables) (S.bytes storage)) }
         ensures refused { IfErr result
             (by_fault (IsRefusedOpening (S.features storage) (S.bytes storage))
             (TablesNeedMore (S.features storage) (S.bytes storage) (Some most_tables))) }
@@ -212,6 +215,8 @@ impl<S: Storage> Qcow2<S> {
             × IsOpened (S.features storage) (S.bytes storage) (header_in d)
             × (backing_laid ≡ false → NamesBacking (header_in d) → ⊥)) }
         ensures within { IfOk result (λ d. IsWithin most_tables (loaded_length (loaded_in d))) }
+        ensures told { IsTrue (S.features storage).tells_bytes
+            → OnOk result (HasTablesWithin most_tables (S.bytes storage)) }
         ensures refused { IfErr result
             (by_fault
             (λ e. IsRefusedOpening (S.features storage) (S.bytes storage) e

@@ -14,6 +14,7 @@ ghost use Rattle.imago_qcow2.specs.Tables.{KeepsLoaded};
 ghost use Rattle.imago_qcow2.specs.Fault.{by_fault};
 ghost use Rattle.imago_qcow2.specs.Limit.{IsBeyond, IsWithin, HasRoom, IsAccount, NeedMore};
 ghost use Rattle.imago_qcow2.specs.Limit.{with_offset, with_table, table_offsets};
+ghost use Rattle.imago_qcow2.specs.Limit.{AreReadWithin};
 ghost use Rattle.imago_qcow2.specs.Opening.{read_reasons, entries_reasons, tables_reasons};
 
 use crate::entry::{L2Table, table_in};
@@ -360,6 +361,8 @@ pub(crate) fn read_tables<S: Storage, M: TableMemory<S>>(
         t.l1.items t.l2.items) }
     ensures within { IfOk result
         (λ t. IsWithin most (8 * length t.l1.items + cluster * length t.l2.items)) }
+    ensures counted { OnOk result (AreReadWithin (S.features storage.now) (S.bytes storage.now)
+        start count cluster most) }
     ensures refusals { IfErr result
         (by_fault
         (allowed

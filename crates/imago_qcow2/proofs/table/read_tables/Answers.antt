@@ -4,7 +4,7 @@ use Rattle.std.proofs.lemmas.Result.{err_from_is_err_and}
 use Rattle.imago_drivers.specs.Reasons.{allowed}
 use Rattle.imago_qcow2.specs.Limit.{IsBeyond, NeedMore}
 use Rattle.imago_qcow2.specs.Opening.{tables_reasons}
-use Rattle.imago_qcow2.proofs.LimitSteps.{full_by, count_fault, tables_fault}
+use Rattle.imago_qcow2.proofs.LimitSteps.{full_by, count_fault, tables_fault, read_within}
 use Rattle.imago_qcow2.proofs.TableSteps.{first_refused}
 use Rattle.imago_qcow2.proofs.table.read_tables.Goals as goal
 
@@ -33,3 +33,9 @@ returns-in_err-l1-clause-refusals g c =
     let B = g.S.Storage.bytes c.args.storage.now in
     let p = err_from_is_err_and c.from_residual-in_err-l1.result c.from_residual-in_err-l1.ensures.1 in
     rw (p.1, p.2) (tables_fault F B c.args.start c.args.count c.args.cluster c.deref-2.result.now c.args.most c.in_ok-room.room c.in_ok-room.ensures.left (record { len = ap length c.deref-2.ensures.value ∙ c.in_ok-entries.ensures.whole; read = rw c.deref-2.ensures.value c.in_ok-entries.ensures.read }) c.in_err-l1.field-0.0 c.in_err-l1.ensures.refusals)
+
+pub returns-clause-counted : goal.returns-clause-counted
+returns-clause-counted g c =
+    let F = g.S.Storage.features c.args.storage.now in
+    let B = g.S.Storage.bytes c.args.storage.now in
+    read_within F B c.args.start c.args.count c.args.cluster c.deref.result.now c.args.most c.in_ok-room.room c.in_ok-room.ensures.left (record { len = ap length c.deref.ensures.value ∙ c.in_ok-entries.ensures.whole; read = rw c.deref.ensures.value c.in_ok-entries.ensures.read }) (c.in_ok-count_all.ensures.within B c.requires.file)

@@ -11,7 +11,7 @@ use Rattle.imago_qcow2.proofs.AbsentSteps.{lacks_memory}
 use Rattle.std.proofs.lemmas.Result.{err_from_is_err_and}
 use Rattle.imago_qcow2.specs.Header.{NamesBacking}
 use Rattle.imago_qcow2.proofs.HeldSteps.{covers_disk, enough, span_positive}
-use Rattle.imago_qcow2.proofs.ToldSteps.{told_header, header_refused, tables_late, loaded_image}
+use Rattle.imago_qcow2.proofs.ToldSteps.{told_header, told_within, header_refused, tables_late, loaded_image}
 use Rattle.imago_qcow2.proofs.LimitedSteps.{tables_fault_late, header_alone, tables_alone}
 use Rattle.imago_qcow2.proofs.qcow2.Qcow2.open_limited.Goals as goal
 use Rattle.imago_qcow2.proofs.qcow2.Qcow2.open_limited.Goals.{else-not-backing_laid-via-then-not-backing_laid+else-names_backing, else-not-backing_laid-via-else-not-backing_laid}
@@ -49,6 +49,14 @@ returns-clause-opened g c =
         | else-not-backing_laid-via-else-not-backing_laid w ↦ let laid = w.if-not-backing_laid.false in let z : ⊥ = cc in z
       ],
     )
+
+pub returns-clause-told : goal.returns-clause-told
+returns-clause-told g c = λ told.
+    let h = c.in_ok-header.header in
+    let value = c.of_length-cluster.ensures in
+    told_within (g.S.Storage.features c.args.storage) (g.S.Storage.bytes c.args.storage) told h c.in_ok-header.ensures.header
+    c.div_ceil-count.result c.of_length-cluster.result.length c.args.most_tables
+    (c.div_ceil-count.ensures ∙ ap (λ x. div_ceil h.size (x / 8 * x)) value) value c.in_ok-tables.ensures.counted
 
 pub returns-then-names_backing-clause-refused : goal.returns-then-names_backing-clause-refused
 returns-then-names_backing-clause-refused g c =
