@@ -6,6 +6,7 @@ pub mod Entry
 pub mod Fault
 pub mod Tables
 pub mod Limit
+pub mod Sound
 pub mod Absent
 pub mod Backing
 pub mod Opening

@@ -20,4 +20,5 @@ pub mod memory;
 pub mod number;
 pub mod qcow2;
 mod qcow2_builder;
+pub mod sound;
 mod table;

@@ -426,7 +426,7 @@ impl<S: Storage> Qcow2<S> {
 
     /// What the guest cluster at that offset of the disk is, and how many bytes from there on stand
     /// in such guest clusters: of absent ones as many as are known.
-    fn run_at(&self, offset: u64) -> (GuestCluster, u64)
+    pub(crate) fn run_at(&self, offset: u64) -> (GuestCluster, u64)
         requires { offset < self.now.header.size }
         ensures same { (i : ℕ)
             → i < result.1
