@@ -8,6 +8,7 @@ pub mod ChainSteps
 pub mod ExtentSteps
 pub mod PartSteps
 pub mod VmdkSteps
+pub mod LookedSteps
 pub mod RefusalSteps
 pub mod ImageSteps
 pub mod NameAlike

@@ -57,12 +57,14 @@ beside_named text (Some file) filename path relative name is of beside =
     beside ∙ ap (λ (p : List ℕ). path_beside p relative) here
 
 -- the gate of the image of that path
-abbrev pub IsGateOf : {H File : Type 0} → H → List ℕ → OtherFiles → MutBor (FolderGate H File) → Type 0
+abbrev pub IsGateOf :
+    {H File : Type 0} {g : _} {h : _} → H → List ℕ → OtherFiles → MutBor (FolderGate H File g h) → Type 0
 IsGateOf host path others m = (m.now.door.host.now ≡ host) × (m.now.door.image.now ≡ path) × (m.now.door.others ≡ others)
 
-module _ {H File S : Type 0} (contents : H → Option (List ℕ → List ℕ)) (features : S → Features) (bytes : S → List ℕ) where
+module _ {H File S : Type 0} {g : _} {h : _} (contents : H → Option (List ℕ → List ℕ)) (features : S → Features)
+    (bytes : S → List ℕ) where
   -- what it answers
-  abbrev pub IsLookedBy : Opening (MutBor (FolderGate H File)) S
+  abbrev pub IsLookedBy : Opening (MutBor (FolderGate H File g h)) S
   IsLookedBy o a b r = (b.now.door.host.now ≡ a.now.door.host.now) × (b.now.door.image.now ≡ a.now.door.image.now)
       × (b.now.door.others ≡ a.now.door.others)
       × IfOk r (IsLooked features bytes (contents a.now.door.host.now) a.now.door.others a.now.door.image.now o.filename)
@@ -71,7 +73,7 @@ module _ {H File S : Type 0} (contents : H → Option (List ℕ → List ℕ)) (
   pub looked :
       (host : H) (path : List ℕ) (others : OtherFiles)
       (files : List ℕ → List ℕ) → contents host ≡ Some files
-      → (direct : Bool) (name : List ℕ) (before after : MutBor (FolderGate H File)) (s : S)
+      → (direct : Bool) (name : List ℕ) (before after : MutBor (FolderGate H File g h)) (s : S)
       → IsGateOf host path others before → IsLookedBy (extent_options direct name) before after (Ok s)
       → IsGateOf host path others after × IsTrue (features s).tells_bytes
       × (bytes s ≡ files name) × IsLetThrough others path name

@@ -23,12 +23,12 @@ use Rattle.imago_images.specs.declared.opening.OtherFiles.{OtherFiles}
 use Rattle.imago_images.proofs.PartSteps.{told_one, where_told, IsGateOf, IsLookedBy, looked}
 use Rattle.imago_images.proofs.ExtentSteps.{image_told, vmdk_is}
 
-module _ {H File S : Type 0} {i : _} {j : _} (contents : H → Option (List ℕ → List ℕ))
+module _ {H File S : Type 0} {g : _} {h : _} {i : _} {j : _} (contents : H → Option (List ℕ → List ℕ))
     (features : S → Features) (faults : S → ℕ) (bytes : S → List ℕ)
     (resolved : S → List ℕ → List ℕ → Type 0) (host : H)
     (path : List ℕ) (accepted : Accepted) (others : OtherFiles) (file : S) where
   pub vmdk_opened :
-      (gate : MutBor (FolderGate H File)) (settings : OpenSettings S)
+      (gate : MutBor (FolderGate H File g h)) (settings : OpenSettings S)
       (set : Accepted) (v : Vmdk S i j)
       → IfSome (contents host) (λ files. HasBytes features bytes (files path) file)
       → ((relative name : List ℕ) → resolved file relative name → name ≡ path_beside path relative)

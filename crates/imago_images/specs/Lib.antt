@@ -9,6 +9,7 @@ pub mod DoorParts
 pub mod PathCalls
 pub mod Gate
 pub mod FolderParts
+pub mod Looked
 pub mod GateParts
 pub mod BackingNames
 pub mod Layers

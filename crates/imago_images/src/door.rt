@@ -1,6 +1,7 @@
 // SPDX-License-Identifier: MIT
 //! The files of a host behind a door: none is read that isn't let through.
 ghost use Rattle.std.specs.Prelude.{◌≡◌, List, ℕ, Some, false, IfOk, IfErr, IfSome};
+ghost use Rattle.std.specs.Prelude.{length};
 ghost use Rattle.std.specs.String.{string_bytes};
 ghost use Rattle.imago_images.specs.Gate.{IsLetThrough};
 ghost use Rattle.imago_images.specs.PathFile.{file_path, file_status, is_to_write};
@@ -8,7 +9,7 @@ ghost use Rattle.imago_images.specs.Refusals.{IsRefused, IsUnseen};
 
 use crate::failure::OpenError;
 use crate::file::PathFile;
-use crate::files::Files;
+use crate::files::{FileStatus, Files};
 use crate::opening::OtherFiles;
 use imago_file::host::HostFile;
 use std::alloc::Global;
@@ -77,10 +78,32 @@ impl<'a, 'b, H: Files> Door<'a, 'b, H> {
         ensures path { IfOk result (λ f. file_path f ≡ path.now) }
         ensures status { IfOk result (λ f. IfSome (H.statuses (door_host self.now))
             (λ status_of. file_status f ≡ status_of path.now)) }
+        ensures length { IfOk result (λ f. IfSome (H.contents (door_host self.now))
+            (λ files. (file_status f).length ≡ length (files path.now))) }
         ensures read_only { IfOk result (λ f. is_to_write f ≡ false) }
         ensures refused { IfErr result (IsRefused path.now
             (IsUnseen (H.statuses (door_host self.now)) path.now)) }
     {
         PathFile::look_at(self.host, path)
+    }
+
+    /// The file of a path that is let through, which was looked at before and had that status then.
+    /// The host isn't asked again.
+    pub fn known(&self, path: &str, status: FileStatus) -> Result<PathFile<'a, H>, OpenError>
+        requires through { IsLetThrough (door_files self.now) (door_image self.now) path.now }
+        requires told { IfSome (H.statuses (door_host self.now))
+            (λ status_of. status ≡ status_of path.now) }
+        requires length { IfSome (H.contents (door_host self.now))
+            (λ files. status.length ≡ length (files path.now)) }
+        ensures told { IfOk result (λ f. IfSome (H.contents (door_host self.now))
+            (λ files. ⟦<PathFile<'a, H> as HostFile>⟧.contents f ≡ Some (files path.now))) }
+        ensures path { IfOk result (λ f. file_path f ≡ path.now) }
+        ensures status { IfOk result (λ f. IfSome (H.statuses (door_host self.now))
+            (λ status_of. file_status f ≡ status_of path.now)) }
+        ensures read_only { IfOk result (λ f. is_to_write f ≡ false) }
+        ensures refused { IfErr result (IsRefused path.now
+            (IsUnseen (H.statuses (door_host self.now)) path.now)) }
+    {
+        PathFile::known(self.host, path, status)
     }
 }

@@ -61,6 +61,8 @@ impl<'a, H: Files> PathFile<'a, H> {
         ensures path { IfOk result (λ f. file_path f ≡ path.now) }
         ensures status { IfOk result (λ f. IfSome (H.statuses host.now)
             (λ status_of. file_status f ≡ status_of path.now)) }
+        ensures length { IfOk result (λ f. IfSome (H.contents host.now)
+            (λ files. (file_status f).length ≡ length (files path.now))) }
         ensures read_only { IfOk result (λ f. is_to_write f ≡ false) }
         ensures refused { IfErr result (IsRefused path.now
             (IsUnseen (H.statuses host.now) path.now)) }
@@ -70,9 +72,29 @@ impl<'a, H: Files> PathFile<'a, H> {
         if status.kind == FileKind::Other {
             return Err(OpenError::of_file(alloc, path, Reason::NotAFile));
         }
+        PathFile::known(host, path, status)
+    }
+
+    /// The file of that path, which was looked at before and had that status then. Its host isn't
+    /// asked again.
+    pub(crate) fn known(host: &'a H, path: &str, status: FileStatus) -> Result<Self, OpenError>
+        requires told { IfSome (H.statuses host.now) (λ status_of. status ≡ status_of path.now) }
+        requires length { IfSome (H.contents host.now)
+            (λ files. status.length ≡ length (files path.now)) }
+        ensures told { IfOk result (λ f. IfSome (H.contents host.now)
+            (λ files. ⟦<PathFile<'a, H> as HostFile>⟧.contents f ≡ Some (files path.now))) }
+        ensures path { IfOk result (λ f. file_path f ≡ path.now) }
+        ensures status { IfOk result (λ f. IfSome (H.statuses host.now)
+            (λ status_of. file_status f ≡ status_of path.now)) }
+        ensures length { IfOk result (λ f. IfSome (H.contents host.now)
+            (λ files. (file_status f).length ≡ length (files path.now))) }
+        ensures read_only { IfOk result (λ f. is_to_write f ≡ false) }
+        ensures refused { IfErr result (IsRefused path.now
+            (IsUnseen (H.statuses host.now) path.now)) }
+    {
         Ok(PathFile {
             host,
-            path: String::from_str(alloc, path)?,
+            path: String::from_str(host.alloc(), path)?,
             status,
             access: Access::ByPath(status.length),
         })

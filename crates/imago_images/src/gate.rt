@@ -1,13 +1,15 @@
 // SPDX-License-Identifier: MIT
 //! The gate of the files that an image names.
 ghost use Rattle.std.specs.Prelude.{◌≡◌, ℕ, List, Option, true, false, Some, IfOk, IfErr, IfSome};
-ghost use Rattle.std.specs.Prelude.{IsSome};
+ghost use Rattle.std.specs.Prelude.{IsSome, length};
 ghost use Rattle.imago_images.specs.declared.opening.OtherFiles.TheVariants as Others;
 ghost use Rattle.std.specs.String.{string_bytes};
 ghost use Rattle.imago_images.specs.Gate.{folder_asked, folder_path, IsInside, IsLetThrough};
 ghost use Rattle.imago_images.specs.Gate.{IsLooked};
+ghost use Rattle.imago_images.specs.DoorParts.{door_host, door_image, door_files};
 ghost use Rattle.imago_images.specs.HostBytes.{HasBytes};
-ghost use Rattle.imago_images.specs.FolderParts.{IsBounded, IsWithin};
+ghost use Rattle.imago_images.specs.FolderParts.{bounds_in, IsBounded, IsWithin};
+ghost use Rattle.imago_images.specs.Looked.{IsLookedAt, AreLookedAt, AreLookedAt-prop, KeepsBeside};
 ghost use Rattle.imago_images.specs.PathFile.{file_path, file_status, is_to_write};
 ghost use Rattle.imago_images.specs.Refusals.{IsRefused, IsBySystem, IsOutside, IsOut, IsKeptOut};
 ghost use Rattle.imago_images.specs.Refusals.{IsNotHandedOut};
@@ -16,7 +18,7 @@ ghost use Rattle.imago_file.specs.Names.{lies_below as lies_below_folder};
 use crate::door::Door;
 use crate::failure::{OpenError, Reason};
 use crate::file::{PathFile, PathStorage, storage_of};
-use crate::files::Files;
+use crate::files::{FileStatus, Files};
 use crate::folder::Folder;
 use crate::opening::OtherFiles;
 use imago_drivers::gate::ImplicitOpenGate;
@@ -25,6 +27,7 @@ use imago_file::name::lies_below;
 use imago_storage::error::Error;
 use imago_storage::storage::{Storage, StorageOpenOptions};
 use std::alloc::Global;
+use std::collections::BTreeMap;
 use std::path::Path;
 
 /// The path of the folder that a file of that path is in, by its text.
@@ -63,6 +66,13 @@ pub struct FolderGate<'a, 'b, H: Files> {
     folder: Folder,
     /// The path of the last file that wasn't handed out.
     refused: Option<String>,
+    /// What the files of the paths are that were let through and looked at once.
+    looked: BTreeMap<String, FileStatus>,
+    ghost looked_at: { AreLookedAt (H.contents (door_host door)) (H.statuses (door_host door))
+        (H.real_paths (door_host door)) (door_files door) (door_image door) (bounds_in folder)
+        looked } by { AreLookedAt-prop (H.contents (door_host door)) (H.statuses (door_host door))
+            (H.real_paths (door_host door)) (door_files door) (door_image door) (bounds_in folder)
+            looked },
 }
 
 impl<'a, 'b, H: Files> FolderGate<'a, 'b, H> {
@@ -94,6 +104,7 @@ impl<'a, 'b, H: Files> FolderGate<'a, 'b, H> {
             named,
             folder,
             refused: None,
+            looked: BTreeMap::new(host.alloc()),
         })
     }
 
@@ -156,6 +167,8 @@ impl<'a, 'b, H: Files> FolderGate<'a, 'b, H> {
         ensures path { IfOk result (λ f. file_path f ≡ path.now) }
         ensures status { IfOk result (λ f. IfSome (H.statuses (gate_host self.now))
             (λ status_of. file_status f ≡ status_of path.now)) }
+        ensures length { IfOk result (λ f. IfSome (H.contents (gate_host self.now))
+            (λ files. (file_status f).length ≡ length (files path.now))) }
         ensures read_only { IfOk result (λ f. is_to_write f ≡ false) }
         ensures through { IfOk result
             (λ _. IsLetThrough (gate_files self.now) (gate_image self.now) path.now) }
@@ -173,6 +186,54 @@ impl<'a, 'b, H: Files> FolderGate<'a, 'b, H> {
         } else {
             Err(self.kept_out(path))
         }
+    }
+
+    /// Looks at the file of that path as [`look`](Self::look) does, and at each path once: what is
+    /// found is kept, and a file that is asked for again is handed out as it was found. What is
+    /// refused isn't kept.
+    pub fn look_once(&mut self, path: &str) -> Result<PathFile<'a, H>, OpenError>
+        ensures told { IfOk result (λ f. IfSome (H.contents (gate_host self.old))
+            (λ files. ⟦<PathFile<'a, H> as HostFile>⟧.contents f ≡ Some (files path.now))) }
+        ensures path { IfOk result (λ f. file_path f ≡ path.now) }
+        ensures status { IfOk result (λ f. IfSome (H.statuses (gate_host self.old))
+            (λ status_of. file_status f ≡ status_of path.now)) }
+        ensures read_only { IfOk result (λ f. is_to_write f ≡ false) }
+        ensures through { IfOk result
+            (λ _. IsLetThrough (gate_files self.old) (gate_image self.old) path.now) }
+        ensures inside { (gate_files self.old ≡ Others.InFolder → IsSome (gate_bounds self.old))
+            → IsBounded (H.real_paths (gate_host self.old)) (gate_image self.old)
+            (gate_bounds self.old) → IfOk result (λ _. IsInside (H.real_paths (gate_host self.old))
+            (gate_files self.old) (gate_image self.old) path.now) }
+        ensures refused { IsBounded (H.real_paths (gate_host self.old)) (gate_image self.old)
+            (gate_bounds self.old) → IfErr result (IsNotHandedOut (gate_named self.old)
+            (H.statuses (gate_host self.old)) (H.real_paths (gate_host self.old))
+            (gate_files self.old) (gate_image self.old) path.now) }
+        ensures same_host { gate_host self.new ≡ gate_host self.old }
+        ensures same_image { gate_image self.new ≡ gate_image self.old }
+        ensures same_named { gate_named self.new ≡ gate_named self.old }
+        ensures same_files { gate_files self.new ≡ gate_files self.old }
+        ensures same_bounds { gate_bounds self.new ≡ gate_bounds self.old }
+    {
+        if let Some(status) = self.looked.get(path) {
+            return self.door.known(path, *status);
+        }
+        let file = self.look(path)?;
+        self.keep(path, file.status());
+        Ok(file)
+    }
+
+    /// Keeps what the file of a path is, if there is memory for it.
+    fn keep(&mut self, path: &str, status: FileStatus)
+        requires { IsLookedAt (H.contents (gate_host self.old)) (H.statuses (gate_host self.old))
+            (H.real_paths (gate_host self.old)) (gate_files self.old) (gate_image self.old)
+            (gate_bounds self.old) path.now status }
+        ensures same_host { gate_host self.new ≡ gate_host self.old }
+        ensures same_image { gate_image self.new ≡ gate_image self.old }
+        ensures same_named { gate_named self.new ≡ gate_named self.old }
+        ensures same_files { gate_files self.new ≡ gate_files self.old }
+        ensures same_bounds { gate_bounds self.new ≡ gate_bounds self.old }
+    {
+        keep_status(self.door.alloc(), &mut self.looked, path, status);
     }
 
     /// A path isn't let through.
@@ -193,17 +254,34 @@ impl<'a, 'b, H: Files> FolderGate<'a, 'b, H> {
     }
 
     /// The storage of the file of that path, if it is let through.
-    fn storage(&self, path: &str) -> Result<PathStorage<'a, H>, OpenError>
-        ensures told { IfOk result (λ s. IfSome (H.contents (gate_host self.now))
+    fn storage(&mut self, path: &str) -> Result<PathStorage<'a, H>, OpenError>
+        ensures told { IfOk result (λ s. IfSome (H.contents (gate_host self.old))
             (λ files. HasBytes ⟦<PathStorage<'a, H> as Storage>⟧.features
             ⟦<PathStorage<'a, H> as Storage>⟧.bytes (files path.now) s)) }
         ensures through { IfOk result
-            (λ _. IsLetThrough (gate_files self.now) (gate_image self.now) path.now) }
+            (λ _. IsLetThrough (gate_files self.old) (gate_image self.old) path.now) }
         ensures read_only { IfOk result
             (λ s. (⟦<PathStorage<'a, H> as Storage>⟧.features s).offers_resize ≡ false) }
+        ensures same_host { gate_host self.new ≡ gate_host self.old }
+        ensures same_image { gate_image self.new ≡ gate_image self.old }
+        ensures same_files { gate_files self.new ≡ gate_files self.old }
     {
-        let file = self.look(path)?;
+        let file = self.look_once(path)?;
         storage_of(file, path)
+    }
+}
+
+/// Keeps what the file of a path is, if there is memory for it.
+fn keep_status(
+    alloc: Global,
+    looked: &mut BTreeMap<String, FileStatus>,
+    path: &str,
+    status: FileStatus,
+)
+    ensures { KeepsBeside looked.old looked.new path.now status }
+{
+    if let Ok(key) = String::from_str(alloc, path) {
+        let _ = looked.insert(key, status);
     }
 }
 
