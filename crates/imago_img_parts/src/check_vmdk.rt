@@ -165,12 +165,12 @@ fn check_extents<H: Host, W: Write>(
         (λ files. AreHeld how.other_files files path.now
         (map (extent_with string_bytes) described.now.extents.items))) }
 {
-    let gate = FolderGate::of(host, path, Named::Extents, how.other_files)?;
+    let mut gate = FolderGate::of(host, path, Named::Extents, how.other_files)?;
     let mut faults: u64 = 0;
     let mut rest = described.extents.as_slice();
     while let Some((extent, behind)) = rest.split_first() {
         rest = behind;
-        if tell_extent(host.alloc(), &gate, extent, output)? {
+        if tell_extent(host.alloc(), &mut gate, extent, output)? {
             faults = faults.saturating_add(1);
         }
     }
@@ -180,13 +180,17 @@ fn check_extents<H: Host, W: Write>(
 /// Tells if the file of an extent doesn't hold it, and answers whether that is so.
 fn tell_extent<H: Host, W: Write>(
     alloc: Global,
-    gate: &FolderGate<'_, '_, H>,
+    gate: &mut FolderGate<'_, '_, H>,
     extent: &Extent<String>,
     output: &mut W,
 ) -> Result<bool, Failure>
-    ensures { IfOk result (λ faulty. faulty ≡ false → IfSome (H.contents (gate_host gate.now))
-        (λ files. IsHeld (gate_files gate.now) files (gate_image gate.now)
+    ensures held { IfOk result
+        (λ faulty. faulty ≡ false → IfSome (H.contents (gate_host gate.old))
+        (λ files. IsHeld (gate_files gate.old) files (gate_image gate.old)
         (extent_with string_bytes extent.now))) }
+    ensures same_host { gate_host gate.new ≡ gate_host gate.old }
+    ensures same_image { gate_image gate.new ≡ gate_image gate.old }
+    ensures same_files { gate_files gate.new ≡ gate_files gate.old }
 {
     let Extent::Flat {
         sectors,

@@ -32,13 +32,17 @@ pub enum ExtentFile {
 }
 
 /// What is found under the name of an extent of the descriptor whose files that gate lets through.
+/// A file that several extents name is looked at once.
 pub fn find<H: Host>(
     alloc: Global,
-    gate: &FolderGate<'_, '_, H>,
+    gate: &mut FolderGate<'_, '_, H>,
     name: &str,
 ) -> Result<ExtentFile, Failure>
-    ensures { IfOk result (λ file. IfSome (H.contents (gate_host gate.now))
-        (λ files. IsFound (gate_files gate.now) files (gate_image gate.now) name.now file)) }
+    ensures found { IfOk result (λ file. IfSome (H.contents (gate_host gate.old))
+        (λ files. IsFound (gate_files gate.old) files (gate_image gate.old) name.now file)) }
+    ensures same_host { gate_host gate.new ≡ gate_host gate.old }
+    ensures same_image { gate_image gate.new ≡ gate_image gate.old }
+    ensures same_files { gate_files gate.new ≡ gate_files gate.old }
 {
     let path = path_beside(alloc, gate.image(), name)?;
     match readable_length(alloc, gate, &path) {
@@ -50,15 +54,18 @@ pub fn find<H: Host>(
 /// The length of a file whose first byte can be read, in bytes, if it is let through.
 fn readable_length<H: Host>(
     alloc: Global,
-    gate: &FolderGate<'_, '_, H>,
+    gate: &mut FolderGate<'_, '_, H>,
     path: &str,
 ) -> Result<u64, OpenError>
     ensures through { IfOk result
-        (λ _. IsLetThrough (gate_files gate.now) (gate_image gate.now) path.now) }
-    ensures told { IfOk result (λ n. IfSome (H.contents (gate_host gate.now))
+        (λ _. IsLetThrough (gate_files gate.old) (gate_image gate.old) path.now) }
+    ensures told { IfOk result (λ n. IfSome (H.contents (gate_host gate.old))
         (λ files. n ≡ count_of (files path.now))) }
+    ensures same_host { gate_host gate.new ≡ gate_host gate.old }
+    ensures same_image { gate_image gate.new ≡ gate_image gate.old }
+    ensures same_files { gate_files gate.new ≡ gate_files gate.old }
 {
-    let file = storage_of(gate.look(path)?, path)?;
+    let file = storage_of(gate.look_once(path)?, path)?;
     try_file(alloc, path, &file)?;
     OpenError::or_image(alloc, path, file.size())
 }

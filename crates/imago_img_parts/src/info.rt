@@ -290,10 +290,10 @@ fn found_extents<H: Host>(
     extents: Vec<Extent<String>>,
     how: Opening,
 ) -> Result<Vec<Found>, Failure> {
-    let gate = FolderGate::of(host, path, Named::Extents, how.other_files)?;
+    let mut gate = FolderGate::of(host, path, Named::Extents, how.other_files)?;
     let mut all = Vec::new(host.alloc());
     for extent in extents {
-        let file = file_of(host.alloc(), &gate, &extent)?;
+        let file = file_of(host.alloc(), &mut gate, &extent)?;
         all.push((extent, file))?;
     }
     Ok(all)
@@ -302,7 +302,7 @@ fn found_extents<H: Host>(
 /// What is found under the name of an extent, if it has one.
 fn file_of<H: Host>(
     alloc: Global,
-    gate: &FolderGate<'_, '_, H>,
+    gate: &mut FolderGate<'_, '_, H>,
     extent: &Extent<String>,
 ) -> Result<Option<ExtentFile>, Failure> {
     match extent {

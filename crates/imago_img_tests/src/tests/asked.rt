@@ -3,7 +3,9 @@
 
 use super::set_up::{copying, run_on, words_of};
 use crate::asked::Call;
-use crate::memory_host::MemoryHost;
+use crate::memory_host::{MemoryHost, Nature};
+use imago_images::opener::open_image;
+use imago_images::opening::{Accepted, Opening, OtherFiles};
 use std::alloc::{AllocError, Global};
 use std::process::Abort;
 
@@ -45,9 +47,29 @@ static BESIDE: [Row; 3] = [
     ("check disk.vmdk", 2, &["disk.vmdk"]),
 ];
 
+/// Command lines over a descriptor whose extents stand in two files by turns, and their statuses.
+static BY_TURNS: [(&str, u8); 2] = [("info turns.vmdk", 0), ("check turns.vmdk", 2)];
+
+/// Any image of that folder is opened.
+const IN_FOLDER: Opening = Opening {
+    format: None,
+    accepted: Accepted::EVERYTHING,
+    other_files: OtherFiles::InFolder,
+    tables: None,
+    longest: None,
+};
+
 /// The files behind a command line, which was done, and its status.
 fn asked(alloc: Global, words: &str) -> Result<(MemoryHost, u8), AllocError> {
-    let mut host = copying(alloc)?;
+    asked_of(alloc, copying(alloc)?, words)
+}
+
+/// The same over these files.
+fn asked_of(
+    alloc: Global,
+    mut host: MemoryHost,
+    words: &str,
+) -> Result<(MemoryHost, u8), AllocError> {
     for path in &NEW {
         host.follow(path)?;
     }
@@ -81,6 +103,68 @@ fn asks_for_others(rt: &impl Abort, alloc: Global, row: &Row) -> bool {
     }
     assert_eq!(rt; besides(&host, Call::Write, &[]), 0, "{words}");
     besides(&host, Call::Look, named) > 0 || besides(&host, Call::Read, named) > 0
+}
+
+/// A host with a descriptor of so many extents of one sector each, which stand in two files by
+/// turns.
+fn with_turns(alloc: Global, count: usize) -> Result<MemoryHost, AllocError> {
+    let mut text = Vec::new(alloc);
+    text.extend_from_slice(b"# Disk DescriptorFile\nversion=1\n")?;
+    for turn in 0..count {
+        if turn % 2 == 0 {
+            text.extend_from_slice(b"RW 1 FLAT \"a.bin\" 0\n")?;
+        } else {
+            text.extend_from_slice(b"RW 1 FLAT \"parts/b.bin\" 0\n")?;
+        }
+    }
+    let mut host = copying(alloc)?;
+    host.add("turns.vmdk", &text, Nature::Plain)?;
+    Ok(host)
+}
+
+/// How often each of the two files was looked at in which the extents stand.
+fn looks_by_turns(host: &MemoryHost) -> (u64, u64) {
+    let asked = host.asked();
+    (
+        asked.count(Call::Look, "a.bin"),
+        asked.count(Call::Look, "parts/b.bin"),
+    )
+}
+
+/// Opens a descriptor of 40 extents: where each file is without links is asked once, and what it
+/// is.
+fn opens_by_turns(rt: &impl Abort, host: &MemoryHost) {
+    let opened = open_image(host, "turns.vmdk", IN_FOLDER);
+    assert!(rt; opened.is_ok());
+    assert_eq!(rt; looks_by_turns(host), (2, 2));
+}
+
+/// Tries a command line over such a descriptor, which asks for no more.
+fn asks_by_turns(rt: &impl Abort, alloc: Global, host: MemoryHost, row: (&str, u8)) {
+    let (words, status) = row;
+    let made = asked_of(alloc, host, words);
+    assert!(rt; made.is_ok(), "{words}");
+    let Ok((host, found)) = made else { return };
+    assert_eq!(rt; found, status, "{words}");
+    assert_eq!(rt; looks_by_turns(&host), (2, 2), "{words}");
+}
+
+#[test]
+fn the_file_of_many_extents_is_looked_at_once(rt: HostRuntime) {
+    let host = with_turns(rt.alloc(), 40);
+    assert!(&rt; host.is_ok());
+    let Ok(host) = &host else { return };
+    opens_by_turns(&rt, host);
+}
+
+#[test]
+fn extents_are_told_and_checked_by_one_look(rt: HostRuntime) {
+    for row in &BY_TURNS {
+        let host = with_turns(rt.alloc(), 40);
+        assert!(&rt; host.is_ok());
+        let Ok(host) = host else { return };
+        asks_by_turns(&rt, rt.alloc(), host, *row);
+    }
 }
 
 #[test]

@@ -7,11 +7,12 @@ use Rattle.imago_img_parts.specs.Checked.{AreHeld}
 use Rattle.imago_img_parts.proofs.check_vmdk.check_extents.Given as goal
 
 abbrev pub invariant-loop-extent : goal.invariant-loop-extent
-invariant-loop-extent g l =
-    l.faults ≡ 0 → IfSome (g.H.Files.contents (gate_host l.gate)) (λ files.
-    AreHeld (gate_files l.gate) files (gate_image l.gate) (map (extent_with string_bytes) l.rest)
-    → AreHeld (gate_files l.gate) files (gate_image l.gate)
-    (map (extent_with string_bytes) l.described.extents.items))
+invariant-loop-extent g l = (gate_host l.gate ≡ l.fn.host) × (gate_image l.gate ≡ l.fn.path)
+    × (gate_files l.gate ≡ l.fn.how.other_files)
+    × (l.faults ≡ 0 → IfSome (g.H.Files.contents l.fn.host) (λ files.
+    AreHeld l.fn.how.other_files files l.fn.path (map (extent_with string_bytes) l.rest)
+    → AreHeld l.fn.how.other_files files l.fn.path
+    (map (extent_with string_bytes) l.fn.described.extents.items)))
 
 abbrev pub decreases-loop-extent : goal.decreases-loop-extent
 decreases-loop-extent g l = length l.rest
