@@ -9,6 +9,7 @@ pub mod ExtentSteps
 pub mod PartSteps
 pub mod VmdkSteps
 pub mod LookedSteps
+pub mod NamedSteps
 pub mod RefusalSteps
 pub mod ImageSteps
 pub mod NameAlike

@@ -44,10 +44,12 @@ AreLetThrough others image (path ∷ paths) =
     IsLetThrough others image path × AreLetThrough others image paths
 
 -- A storage was handed out for the path that was asked for, which is let through. Where the host
--- tells what its files hold, the storage has the bytes of the file of that path.
+-- tells what its files hold, the storage has the bytes of the file of that path. The path is its
+-- name.
 abbrev pub IsLooked :
     {S : Type 0} → (S → Features) → (S → List ℕ) → Option (List ℕ → List ℕ) → OtherFiles
     → List ℕ → Option (List ℕ) → S → Type 0
 IsLooked features bytes known others image asked s =
     (path : List ℕ) × (asked ≡ Some path) × IsLetThrough others image path
     × IfSome known (λ files. HasBytes features bytes (files path) s)
+    × ((features s).filename ≡ Some path)

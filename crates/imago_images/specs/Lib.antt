@@ -15,6 +15,7 @@ pub mod BackingNames
 pub mod Layers
 pub mod Images
 pub mod Way
+pub mod ImageFiles
 pub mod Refusals
 pub mod Chains
 pub mod Longest

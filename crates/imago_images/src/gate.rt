@@ -260,6 +260,8 @@ impl<'a, 'b, H: Files> FolderGate<'a, 'b, H> {
             ⟦<PathStorage<'a, H> as Storage>⟧.bytes (files path.now) s)) }
         ensures through { IfOk result
             (λ _. IsLetThrough (gate_files self.old) (gate_image self.old) path.now) }
+        ensures name { IfOk result
+            (λ s. (⟦<PathStorage<'a, H> as Storage>⟧.features s).filename ≡ Some path.now) }
         ensures read_only { IfOk result
             (λ s. (⟦<PathStorage<'a, H> as Storage>⟧.features s).offers_resize ≡ false) }
         ensures same_host { gate_host self.new ≡ gate_host self.old }

@@ -1,7 +1,7 @@
 // SPDX-License-Identifier: MIT
 //! A layer by itself: a file in a format, and the name of the file below it.
 ghost use Rattle.std.specs.Prelude.{◌≡◌, ◌≤◌, ℕ, ◌⊎◌, List, Option, None, Some, IfOk, IfErr, IfSome, IsErr};
-ghost use Rattle.std.specs.Prelude.{IsTrue, MatchResult, length, map, option_map, true};
+ghost use Rattle.std.specs.Prelude.{IsTrue, MatchResult, [], ◌∷◌, length, map, option_map, true};
 ghost use Rattle.std.specs.String.{string_bytes};
 ghost use Rattle.imago_drivers.specs.Raw.{raw_place};
 ghost use Rattle.imago_qcow2.specs.Entry.{disk_size, qcow2_place};
@@ -9,6 +9,7 @@ ghost use Rattle.imago_vmdk.specs.Line.{extent_with};
 ghost use Rattle.imago_images.specs.HostBytes.{HasBytes};
 ghost use Rattle.imago_images.specs.Layers.{IsDriverOf, NeverWrites, tables_in};
 ghost use Rattle.imago_images.specs.Images.{IsLayerOf, LeadsTo};
+ghost use Rattle.imago_images.specs.ImageFiles.{AreNamed, layer_paths};
 ghost use Rattle.imago_images.specs.Layers.{SaysBacking};
 ghost use Rattle.imago_images.specs.Longest.{IsNoLonger};
 ghost use Rattle.imago_file.specs.Names.{path_beside as path_beside_file};
@@ -95,6 +96,10 @@ pub fn open_layer<'a, H: Files>(
         (λ files. IsLayerOf ⟦<AnyDriver<PathStorage<'a, H>> as FormatDriverInstance>⟧.view
         how.accepted how.other_files files path.now format l.driver
         (option_map (λ b. string_bytes b.path) l.below))) }
+    ensures files { IfOk result (λ l. IfSome (H.contents host.now)
+        (λ files. AreNamed
+        (⟦<AnyDriver<PathStorage<'a, H>> as FormatDriverInstance>⟧.view l.driver).stores
+        (layer_paths how.accepted format path.now (files path.now)))) }
     ensures format { IfOk result (λ l. IfSome (H.contents host.now)
         (λ files. IfSome l.below (λ b. SaysFormat (files path.now) b.format))) }
     ensures read_only { IfOk result (λ l. NeverWrites
@@ -125,6 +130,8 @@ pub(crate) fn raw_layer<S: Storage>(
     ensures storage { IfOk result (λ l.
         (⟦<AnyDriver<S> as FormatDriverInstance>⟧.view l.driver).stores.features 0
         ≡ S.features file) }
+    ensures files { (S.features file).filename ≡ Some path.now → IfOk result (λ l. AreNamed
+        (⟦<AnyDriver<S> as FormatDriverInstance>⟧.view l.driver).stores (path.now ∷ [])) }
     ensures tables { IfOk result (λ l. tables_in l.driver ≡ 0) }
     ensures ready { IfOk result (λ l.
         (⟦<AnyDriver<S> as FormatDriverInstance>⟧.view l.driver).pending ≡ None) }
@@ -154,6 +161,9 @@ fn layer_in_qcow2<S: Storage>(
         (option_map (λ b. string_bytes b.path) l.below)) }
     ensures format { (bytes : List ℕ) → HasBytes S.features S.bytes bytes (storage_in qcow2)
         → IfOk result (λ l. IfSome l.below (λ b. SaysFormat bytes b.format)) }
+    ensures files { (S.features (storage_in qcow2)).filename ≡ Some path.now → IfOk result
+        (λ l. AreNamed (⟦<AnyDriver<S> as FormatDriverInstance>⟧.view l.driver).stores
+        (path.now ∷ [])) }
     ensures tables { IfOk result (λ l. tables_in l.driver ≡ loaded_length (loaded_in qcow2)) }
     ensures read_only { IfOk result (λ l. NeverWrites
         ⟦<AnyDriver<S> as FormatDriverInstance>⟧.view l.driver) }
@@ -184,6 +194,8 @@ fn qcow2_layer<H: Files, S: Storage>(
         (option_map (λ b. string_bytes b.path) l.below)) }
     ensures format { (bytes : List ℕ) → HasBytes S.features S.bytes bytes file
         → IfOk result (λ l. IfSome l.below (λ b. SaysFormat bytes b.format)) }
+    ensures files { (S.features file).filename ≡ Some path.now → IfOk result (λ l. AreNamed
+        (⟦<AnyDriver<S> as FormatDriverInstance>⟧.view l.driver).stores (path.now ∷ [])) }
     ensures tables { IfOk result (λ l. IsWithin most_tables (tables_in l.driver)) }
     ensures read_only { IfOk result (λ l. NeverWrites
         ⟦<AnyDriver<S> as FormatDriverInstance>⟧.view l.driver) }
@@ -420,6 +432,10 @@ fn vmdk_layer<'a, H: Files>(
     ensures layer { IfOk result (λ l. IfSome (H.contents host.now)
         (λ files. IsLayerOf ⟦<AnyDriver<PathStorage<'a, H>> as FormatDriverInstance>⟧.view
         how.accepted how.other_files files path.now Of.Vmdk l.driver None)) }
+    ensures files { IfOk result (λ l. IfSome (H.contents host.now)
+        (λ files. AreNamed
+        (⟦<AnyDriver<PathStorage<'a, H>> as FormatDriverInstance>⟧.view l.driver).stores
+        (layer_paths how.accepted Of.Vmdk path.now (files path.now)))) }
     ensures read_only { IfOk result (λ l. NeverWrites
         ⟦<AnyDriver<PathStorage<'a, H>> as FormatDriverInstance>⟧.view l.driver) }
     ensures tables { IfOk result (λ l. tables_in l.driver ≡ 0) }

@@ -12,6 +12,7 @@ ghost use Rattle.imago_images.specs.Alone.{IsImageOf, IsOfOneFormat};
 ghost use Rattle.imago_images.specs.Formats.{IsFormatBy, SaysFormat};
 ghost use Rattle.imago_images.specs.Gate.{IsInside, IsLetThrough};
 ghost use Rattle.imago_images.specs.Images.{IsImageIn, IsToWrite, IsReadOnly};
+ghost use Rattle.imago_images.specs.ImageFiles.{HasFiles};
 ghost use Rattle.imago_access.specs.Chain.{driver as driver_of};
 ghost use Rattle.imago_qcow2.specs.Limit.{IsWithin};
 ghost use Rattle.imago_images.specs.Layers.{tables_in, tables_of, AreWithin};
@@ -77,6 +78,9 @@ pub fn open_image<'a, H: Files>(
     ensures image { IfOk result (λ r. IfSome (H.contents host.now)
         (λ files. IsImageIn ⟦<AnyDriver<PathStorage<'a, H>> as FormatDriverInstance>⟧.view
         how.accepted how.other_files files path.now r.0 r.1)) }
+    ensures files { IfOk result (λ r. IfSome (H.contents host.now)
+        (λ files. HasFiles ⟦<AnyDriver<PathStorage<'a, H>> as FormatDriverInstance>⟧.view
+        how.accepted files path.now r.0 r.1)) }
     ensures alone { IfOk result (λ r. how.other_files ≡ Others.None → IfSome (H.contents host.now)
         (λ files. IsImageOf ⟦<AnyDriver<PathStorage<'a, H>> as FormatDriverInstance>⟧.view
         how.accepted (files path.now) path.now r.0 r.1)) }
@@ -245,6 +249,9 @@ fn open_chain<'a, H: Files>(
     ensures image { IfOk result (λ x. IfSome (H.contents host.now)
         (λ files. IsImageIn ⟦<AnyDriver<PathStorage<'a, H>> as FormatDriverInstance>⟧.view
         how.accepted how.other_files files path.now format x)) }
+    ensures files { IfOk result (λ x. IfSome (H.contents host.now)
+        (λ files. HasFiles ⟦<AnyDriver<PathStorage<'a, H>> as FormatDriverInstance>⟧.view
+        how.accepted files path.now format x)) }
     ensures read_only { IfOk result
         (IsReadOnly ⟦<AnyDriver<PathStorage<'a, H>> as FormatDriverInstance>⟧.view) }
     ensures tables { IfOk result (λ x. AreWithin how.tables (tables_of tables_in x)) }

@@ -1,5 +1,5 @@
 -- SPDX-License-Identifier: MIT
-use Rattle.std.proofs.Common.{ℕ, List, ap, ◌∙◌, subst, IfSome, Err}
+use Rattle.std.proofs.Common.{ℕ, List, ap, refl, ◌∙◌, subst, IfSome, Some, Err}
 use Rattle.std.proofs.lemmas.Result.{err_from_is_err_and}
 use Rattle.std.specs.Prelude.{option_map}
 use Rattle.imago_qcow2.specs.Entry.{disk_size, qcow2_place}
@@ -8,6 +8,7 @@ use Rattle.imago_images.specs.Images.{LeadsTo}
 use Rattle.imago_images.specs.Refusals.{IsRefused, IsUnopened}
 use Rattle.imago_images.proofs.ImageSteps.{refused_with}
 use Rattle.imago_images.proofs.PartSteps.{path_in, format_in}
+use Rattle.imago_images.proofs.NamedSteps.{only}
 use Rattle.imago_images.proofs.layer.layer_in_qcow2.Goals as goal
 
 pub returns-clause-driver : goal.returns-clause-driver
@@ -35,3 +36,7 @@ returns-in_err-below-clause-refused g c = λ limit bytes told.
     refused_with c.from_residual.result e _ (p.1 ∙ ap (λ x. Err x) p.2)
     (subst (λ (xs : List ℕ). IsRefused c.args.path.now (IsUnopened limit xs) e) told.1
     (c.in_err-below.ensures.refused limit told.0))
+
+pub returns-clause-files : goal.returns-clause-files
+returns-clause-files g c = λ named.
+    (refl, λ i less. named ∙ ap Some (only c.args.path.now i less))

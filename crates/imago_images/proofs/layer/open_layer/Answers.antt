@@ -5,6 +5,8 @@ use Rattle.imago_file.specs.StorageParts.{faults_of}
 use Rattle.imago_images.proofs.PartSteps.{driver_in, below_in, path_in, format_in}
 use Rattle.imago_images.proofs.LayerSteps.{raw_told, qcow2_told, vmdk_told, qcow2_said, alone_said}
 use Rattle.imago_images.proofs.FaultSteps.{vmdk_layer_out}
+use Rattle.imago_images.specs.declared.format.ImageFormat.TheVariants as Of
+use Rattle.imago_images.proofs.NamedSteps.{raw_named, qcow2_named, named_as}
 use Rattle.imago_images.proofs.layer.open_layer.Goals as goal
 
 pub returns-in-Raw-clause-layer : goal.returns-in-Raw-clause-layer
@@ -79,3 +81,30 @@ returns-in-Vmdk-clause-refused g c =
     vmdk_layer_out (g.H.Files.contents host) (g.H.Files.statuses host) (g.H.Files.real_paths host)
     c.args.how.other_files c.args.how c.args.path.now c.vmdk_layer.result c.args.format c.in-Vmdk.is
     c.vmdk_layer.ensures.refused
+
+pub returns-in-Raw-clause-files : goal.returns-in-Raw-clause-files
+returns-in-Raw-clause-files g c =
+    let contents = g.H.Files.contents in
+    let opened = g.H.File.HostFile.contents in
+    raw_named c.raw_layer.result
+    (λ l. (view_over (features_of contents opened) faults_of (bytes_of contents opened) (driver_in l)).stores)
+    c.args.how.accepted (contents c.args.host.now) c.args.path.now c.args.format c.in-Raw.is
+    (c.raw_layer.ensures.files c.requires.path)
+
+pub returns-in-Qcow2-clause-files : goal.returns-in-Qcow2-clause-files
+returns-in-Qcow2-clause-files g c =
+    let contents = g.H.Files.contents in
+    let opened = g.H.File.HostFile.contents in
+    qcow2_named c.qcow2_layer.result
+    (λ l. (view_over (features_of contents opened) faults_of (bytes_of contents opened) (driver_in l)).stores)
+    c.args.how.accepted (contents c.args.host.now) c.args.path.now c.args.format c.in-Qcow2.is
+    (c.qcow2_layer.ensures.files c.requires.path)
+
+pub returns-in-Vmdk-clause-files : goal.returns-in-Vmdk-clause-files
+returns-in-Vmdk-clause-files g c =
+    let contents = g.H.Files.contents in
+    let opened = g.H.File.HostFile.contents in
+    named_as c.vmdk_layer.result
+    (λ l. (view_over (features_of contents opened) faults_of (bytes_of contents opened) (driver_in l)).stores)
+    c.args.how.accepted (contents c.args.host.now) c.args.path.now c.args.format Of.Vmdk c.in-Vmdk.is
+    c.vmdk_layer.ensures.files

@@ -13,6 +13,7 @@ use Rattle.imago_images.proofs.ImageSteps.{refused_with}
 use Rattle.imago_images.proofs.PartSteps.{beside_named, IsLookedBy}
 use Rattle.imago_images.proofs.RefusalSteps.{where_held}
 use Rattle.imago_images.proofs.VmdkSteps.{vmdk_opened}
+use Rattle.imago_images.proofs.NamedSteps.{vmdk_named}
 use Rattle.imago_images.proofs.layer.vmdk_layer.Goals as goal
 
 pub returns-in-Ok-clause-layer : goal.returns-in-Ok-clause-layer
@@ -60,3 +61,17 @@ returns-clause-refused g c =
     ∙ ap (λ (a : Accepted). record a { vmfs = c.args.how.accepted.vmfs }) c.accept_unknown_keys.ensures.accepted)
     c.open.ensures.opened told))
     c.not_described.ensures
+
+pub returns-in-Ok-clause-files : goal.returns-in-Ok-clause-files
+returns-in-Ok-clause-files g c =
+    let contents = g.H.Files.contents in
+    let opened = g.H.File.HostFile.contents in
+    vmdk_named contents (features_of contents opened) (bytes_of contents opened)
+    (λ s relative name. IfSome s.name (λ file. name ≡ path_beside (string_bytes file) relative))
+    c.args.host.now c.args.path.now c.args.how.accepted c.args.file _ _ _ c.in-Ok.vmdk
+    c.requires.told c.requires.path
+    (λ relative name. beside_named string_bytes c.args.file.name _ c.args.path.now relative name c.requires.path refl)
+    (c.accept_vmfs-builder.ensures.settings ∙ c.accept_unknown_keys.ensures.settings ∙ c.builder.ensures.settings)
+    (c.accept_vmfs-builder.ensures.accepted
+    ∙ ap (λ (a : Accepted). record a { vmfs = c.args.how.accepted.vmfs }) c.accept_unknown_keys.ensures.accepted)
+    c.in-Ok.ensures.opened c.in-Ok.vmdk.read

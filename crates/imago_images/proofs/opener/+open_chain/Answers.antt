@@ -14,6 +14,8 @@ use Rattle.imago_images.proofs.ChainSteps.{alone_image, over_image, too_deep_out
 use Rattle.imago_images.proofs.ImageSteps.{refused_with, chain_memory}
 use Rattle.imago_images.specs.Way.{entered}
 use Rattle.imago_images.specs.Chains.{IsChainRefused, IsEndingWay}
+use Rattle.imago_images.proofs.NamedSteps.{alone_files, over_files}
+use Rattle.imago_images.specs.ImageFiles.{HasFiles}
 use Rattle.imago_images.proofs.opener.+open_chain.Goals as goal
 
 pub returns-in_default-clause-image : goal.returns-in_default-clause-image
@@ -185,3 +187,42 @@ pub returns-clause-tables : goal.returns-clause-tables
 returns-clause-tables g t c =
     subst (λ (ns : List ℕ). AreWithin c.args.how.tables ns) (sym (c.in_ok-over.ensures.tables tables_in))
     (c.in_ok-driver.ensures.tables, c.in_ok-below.ensures.tables)
+
+pub returns-in_default-clause-files : goal.returns-in_default-clause-files
+returns-in_default-clause-files g t c =
+    let contents = g.H.Files.contents in
+    let opened = g.H.File.HostFile.contents in
+    let known = contents c.args.host.now in
+    let layer = c.in_ok-driver.field-0 in
+    let says : Option Below → Type 0 = λ b. IfSome known (λ files. IsLayerOf
+    (view_over (features_of contents opened) faults_of (bytes_of contents opened))
+    c.args.how.accepted c.args.how.other_files files c.args.path.now c.args.format layer.driver
+    (option_map path_in b)) in
+    alone_files (view_over (features_of contents opened) faults_of (bytes_of contents opened))
+    c.args.how.accepted c.args.how.other_files known c.args.path.now c.args.format layer.driver
+    c.alone.result c.alone.ensures.stores (subst says c.in_default.is c.in_ok-driver.ensures.layer)
+    c.in_ok-driver.ensures.files
+
+pub returns-clause-files : goal.returns-clause-files
+returns-clause-files g t c =
+    let contents = g.H.Files.contents in
+    let opened = g.H.File.HostFile.contents in
+    let known = contents c.args.host.now in
+    let layer = c.in_ok-driver.field-0 in
+    let next = c.in-Some.next in
+    let says : Option Below → Type 0 = λ b. IfSome known (λ files. IsLayerOf
+    (view_over (features_of contents opened) faults_of (bytes_of contents opened))
+    c.args.how.accepted c.args.how.other_files files c.args.path.now c.args.format layer.driver
+    (option_map path_in b)) in
+    let has : List ℕ → Type 0 = λ p. IfSome known (λ files. HasFiles
+    (view_over (features_of contents opened) faults_of (bytes_of contents opened))
+    c.args.how.accepted files p c.in_ok-file.format c.in_ok-below.below) in
+    over_files (view_over (features_of contents opened) faults_of (bytes_of contents opened))
+    c.args.how.accepted c.args.how.other_files known c.args.path.now c.args.format layer.driver
+    c.in_ok-over.field-0 (string_bytes next.path) c.in_ok-file.format c.in_ok-below.below next.format
+    c.in_ok-over.ensures.stores
+    (subst says c.in-Some.is c.in_ok-driver.ensures.layer)
+    c.in_ok-driver.ensures.files
+    (told_format known c.args.path.now Below format_in layer.below next c.in-Some.is c.in_ok-driver.ensures.format)
+    c.in_ok-file.ensures.format
+    (subst has c.deref.ensures c.in_ok-below.ensures.files)
