@@ -152,6 +152,7 @@ pub use Rattle.imago_images.specs.Extents as ExtentFiles
 pub use Rattle.imago_images.specs.HostBytes
 pub use Rattle.imago_images.specs.PathFile
 pub use Rattle.imago_images.specs.Gate as ImageGate
+pub use Rattle.imago_images.specs.Longest as ImageLimits
 pub use Rattle.imago_images.specs.Layers as ImageLayers
 pub use Rattle.imago_images.specs.Images as FileImages
 pub use Rattle.imago_images.specs.Way as FilesAbove

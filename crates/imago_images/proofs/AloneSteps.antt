@@ -8,10 +8,11 @@ use Rattle.imago_vmdk.specs.declared.line.Accepted.{Accepted}
 use Rattle.imago_vmdk.specs.Disk.{described_place}
 use Rattle.imago_images.specs.declared.format.ImageFormat.{ImageFormat}
 use Rattle.imago_images.specs.declared.format.ImageFormat.TheVariants.{Raw, Vmdk, Qcow2}
+use Rattle.imago_images.specs.declared.opening.Opening.{Opening}
 use Rattle.imago_images.specs.declared.opening.OtherFiles.{OtherFiles}
 use Rattle.imago_images.specs.declared.opening.OtherFiles.TheVariants as Others
 use Rattle.imago_images.specs.Alone.{IsImageOf, AreLayersOf}
-use Rattle.imago_images.specs.Gate.{AreLetThrough}
+use Rattle.imago_images.specs.Gate.{IsLetThrough, AreLetThrough}
 use Rattle.imago_images.specs.Images.{IsLayer, AreLayers, IsImageIn, bytes_in, extent_paths}
 
 -- none of these paths is let through, so there are none
@@ -39,33 +40,36 @@ same_layer accepted files path Vmdk place next (extents, size, read, through, is
 )
 
 same_layers :
-    (accepted : Accepted) (files : List ℕ → List ℕ) (path : List ℕ) (format : ImageFormat)
-    (layers : List (ℕ → Place))
-    → AreLayers accepted Others.None files path format layers
-    → AreLayersOf accepted (files path) path format layers
-same_layers accepted files path format [] h = absurd h
-same_layers accepted files path format (place ∷ below) (None, layer, last) =
-    (None, same_layer accepted files path format place None layer, last)
-same_layers accepted files path format (place ∷ below) (Some next, layer, (through, rest)) =
-    absurd through
+    (how : Opening) (files : List ℕ → List ℕ) (path : List ℕ) (format : ImageFormat)
+    (layers : List (ℕ → Place)) → how.other_files ≡ Others.None
+    → AreLayers how files path format layers
+    → AreLayersOf how (files path) path format layers
+same_layers how files path format [] none h = absurd h
+same_layers how files path format (place ∷ below) none (None, layer, limited, last) = (
+  None,
+  same_layer how.accepted files path format place None
+      (subst (λ (o : OtherFiles). IsLayer how.accepted o files path format place None) none layer),
+  limited,
+  last,
+)
+same_layers how files path format (place ∷ below) none (Some next, layer, limited, (through, rest)) =
+    absurd (subst (λ (o : OtherFiles). IsLetThrough o path next) none through)
 
 pub image_alone :
-    {D St : Type 0} (view : D → View St) (accepted : Accepted) (others : OtherFiles)
-    (files : List ℕ → List ℕ) (path : List ℕ) (format : ImageFormat) (x : FormatAccess D)
-    → others ≡ Others.None → IsImageIn view accepted others files path format x
-    → IsImageOf view accepted (files path) path format x
-image_alone view accepted others files path format x none h =
-    let image : IsImageIn view accepted Others.None files path format x =
-    subst (λ (o : OtherFiles). IsImageIn view accepted o files path format x) none h in
-    (image.0, same_layers accepted files path format image.0 image.1, image.2)
+    {D St : Type 0} (view : D → View St) (how : Opening) (files : List ℕ → List ℕ) (path : List ℕ)
+    (format : ImageFormat) (x : FormatAccess D)
+    → how.other_files ≡ Others.None → IsImageIn view how files path format x
+    → IsImageOf view how (files path) path format x
+image_alone view how files path format x none h =
+    (h.0, same_layers how files path format h.0 none h.1, h.2)
 
 -- the same where a host tells what its files hold
 pub image_alone_told :
-    {D St : Type 0} (view : D → View St) (accepted : Accepted) (others : OtherFiles)
-    (known : Option (List ℕ → List ℕ)) (path : List ℕ) (format : ImageFormat) (x : FormatAccess D)
-    → others ≡ Others.None
-    → IfSome known (λ files. IsImageIn view accepted others files path format x)
-    → IfSome known (λ files. IsImageOf view accepted (files path) path format x)
-image_alone_told view accepted others None path format x none h = tt
-image_alone_told view accepted others (Some files) path format x none h =
-    image_alone view accepted others files path format x none h
+    {D St : Type 0} (view : D → View St) (how : Opening) (known : Option (List ℕ → List ℕ))
+    (path : List ℕ) (format : ImageFormat) (x : FormatAccess D)
+    → how.other_files ≡ Others.None
+    → IfSome known (λ files. IsImageIn view how files path format x)
+    → IfSome known (λ files. IsImageOf view how (files path) path format x)
+image_alone_told view how None path format x none h = tt
+image_alone_told view how (Some files) path format x none h =
+    image_alone view how files path format x none h

@@ -9,9 +9,9 @@ use Rattle.imago_images.specs.declared.format.ImageFormat.{ImageFormat}
 use Rattle.imago_images.specs.Formats.{SaysFormat, IsFormatBy}
 use Rattle.imago_images.specs.Layers.{size_by}
 use Rattle.imago_images.specs.Gate.{IsLetThrough, IsInside}
-use Rattle.imago_images.specs.Longest.{IsNoLonger, HasShortL1}
+use Rattle.imago_images.specs.Longest.{IsNoLonger, HasShortL1, HasFewTables, IsLimited}
 use Rattle.imago_images.specs.Layers.{IsDriverOf, ShowsLayers}
-use Rattle.imago_images.specs.Images.{IsLayerOf, IsImageIn, LeadsTo}
+use Rattle.imago_images.specs.Images.{IsLayerOf, AreLayers, IsImageIn, LeadsTo}
 use Rattle.imago_images.specs.Way.{is_among}
 use Rattle.imago_images.specs.declared.failure.OpenError.{OpenError}
 use Rattle.imago_images.specs.declared.files.FileStatus.{FileStatus}
@@ -24,27 +24,46 @@ use Rattle.imago_images.specs.declared.opening.Opening.{Opening}
 one_more : (down : List (List ℕ)) (next : List ℕ) (less most : ℕ) → less + 1 ≤ most → length down ≤ less → length (next ∷ down) ≤ most
 one_more down next less most n h = grind (arith, n, h)
 
--- a file that is let through, and within the limits
-pub kept_told :
-    (known : Option (List ℕ → List ℕ)) (reals : Option (List ℕ → List ℕ)) (how : Opening) (path next : List ℕ)
-    (lower : ImageFormat) → IsLetThrough how.other_files path next → IsInside reals how.other_files path next
-    → IfSome known (λ files. IsNoLonger how.longest how.accepted lower (files next))
-    → IfSome known (λ files. HasShortL1 lower (files next))
-    → IfSome known (λ files. IsKept files reals how path next lower)
-kept_told None reals how path next lower through inside short l1 = tt
-kept_told (Some files) reals how path next lower through inside short l1 = (through, inside, (short, l1))
+-- the first of layers is within the limits
+pub first_limited :
+    (how : Opening) (files : List ℕ → List ℕ) (path : List ℕ) (format : ImageFormat) (layers : List (ℕ → Place))
+    → AreLayers how files path format layers → IsLimited how format (files path)
+first_limited how files path format [] h = absurd h
+first_limited how files path format (place ∷ below) (next, layer, limited, goes) = limited
 
-module _ {D St : Type 0} (view : D → View St) (accepted : Accepted) (others : OtherFiles) where
+-- a file is within each of the limits
+pub limits_told :
+    (known : Option (List ℕ → List ℕ)) (how : Opening) (path : List ℕ) (format : ImageFormat)
+    → IfSome known (λ files. IsNoLonger how.longest how.accepted format (files path))
+    → IfSome known (λ files. HasShortL1 format (files path))
+    → IfSome known (λ files. HasFewTables how.tables format (files path))
+    → IfSome known (λ files. IsLimited how format (files path))
+limits_told None how path format short l1 few = tt
+limits_told (Some files) how path format short l1 few = (short, l1, few)
+
+module _ {D St : Type 0} (view : D → View St) (how : Opening) where
+  -- a file that is let through, and within the limits
+  pub kept_told :
+      (known : Option (List ℕ → List ℕ)) (reals : Option (List ℕ → List ℕ)) (path next : List ℕ)
+      (lower : ImageFormat) (y : FormatAccess D)
+      → IsLetThrough how.other_files path next → IsInside reals how.other_files path next
+      → IfSome known (λ files. IsImageIn view how files next lower y)
+      → IfSome known (λ files. IsKept files reals how path next lower)
+  kept_told None reals path next lower y through inside image = tt
+  kept_told (Some files) reals path next lower y through inside image =
+      (through, inside, first_limited how files next lower image.0 image.1)
+
   pub alone_image :
       (known : Option (List ℕ → List ℕ)) (path : List ℕ) (format : ImageFormat) (inner : D)
       (x : FormatAccess D)
       → ((size : ℕ) (place : ℕ → Place) → IsDriverOf view size place inner
       → ShowsLayers view x size (place ∷ []))
-      → IfSome known (λ files. IsLayerOf view accepted others files path format inner None)
-      → IfSome known (λ files. IsImageIn view accepted others files path format x)
-  alone_image None path format inner x shows h = tt
-  alone_image (Some files) path format inner x shows h =
-      (h.0 ∷ [], (None, h.1, refl), shows (size_by accepted format (files path)) h.0 h.2)
+      → IfSome known (λ files. IsLayerOf view how.accepted how.other_files files path format inner None)
+      → IfSome known (λ files. IsLimited how format (files path))
+      → IfSome known (λ files. IsImageIn view how files path format x)
+  alone_image None path format inner x shows h l = tt
+  alone_image (Some files) path format inner x shows h l =
+      (h.0 ∷ [], (None, h.1, l, refl), shows (size_by how.accepted format (files path)) h.0 h.2)
 
   pub over_image :
       (known : Option (List ℕ → List ℕ)) (path next : List ℕ) (format lower : ImageFormat)
@@ -52,19 +71,21 @@ module _ {D St : Type 0} (view : D → View St) (accepted : Accepted) (others : 
       → ((size rest : ℕ) (place : ℕ → Place) (layers : List (ℕ → Place))
       → IsDriverOf view size place inner → ShowsLayers view y rest layers
       → ShowsLayers view x size (place ∷ layers))
-      → IfSome known (λ files. IsLayerOf view accepted others files path format inner (Some next))
+      → IfSome known (λ files. IsLayerOf view how.accepted how.other_files files path format inner (Some next))
+      → IfSome known (λ files. IsLimited how format (files path))
       → IfSome known (λ files. SaysFormat (files path) said)
       → IfSome known (λ files. IsFormatBy said next (files next) lower)
-      → IsLetThrough others path next
-      → IfSome known (λ files. IsImageIn view accepted others files next lower y)
-      → IfSome known (λ files. IsImageIn view accepted others files path format x)
-  over_image None path next format lower inner x y said shows h s f t k = tt
-  over_image (Some files) path next format lower inner x y said shows h s f t k = (
+      → IsLetThrough how.other_files path next
+      → IfSome known (λ files. IsImageIn view how files next lower y)
+      → IfSome known (λ files. IsImageIn view how files path format x)
+  over_image None path next format lower inner x y said shows h l s f t k = tt
+  over_image (Some files) path next format lower inner x y said shows h l s f t k = (
     h.0 ∷ k.0,
-    (Some next, h.1, (t, (lower, (said, s, f), k.1))),
-    shows (size_by accepted format (files path)) (size_by accepted lower (files next)) h.0 k.0 h.2 k.2,
+    (Some next, h.1, l, (t, (lower, (said, s, f), k.1))),
+    shows (size_by how.accepted format (files path)) (size_by how.accepted lower (files next)) h.0 k.0 h.2 k.2,
   )
 
+module _ {D St : Type 0} (view : D → View St) (accepted : Accepted) (others : OtherFiles) where
   -- a layer with a file below it goes down to that
   goes_down :
       (files : List ℕ → List ℕ) (path next : List ℕ) (format : ImageFormat) (inner : D)

@@ -10,12 +10,13 @@ use Rattle.imago_images.specs.declared.format.ImageFormat.TheVariants as Format
 use Rattle.imago_images.specs.declared.opening.OtherFiles.{OtherFiles}
 use Rattle.imago_images.specs.Formats.{SaysFormat, IsFormatBy}
 use Rattle.imago_images.specs.Images.{IsImageIn}
+use Rattle.imago_images.proofs.ChainSteps.{first_limited}
 use Rattle.imago_access.specs.declared.access.FormatAccess.{FormatAccess}
 use Rattle.imago_access.specs.Chain.{driver}
 use Rattle.imago_drivers.specs.View.{View}
 use Rattle.imago_images.specs.HostBytes.{HasBytes}
 use Rattle.imago_images.specs.Alone.{IsOfAnother, IsOfOneFormat}
-use Rattle.imago_images.specs.Longest.{IsOverLimit, IsTooLarge, IsNoLonger, HasShortL1}
+use Rattle.imago_images.specs.Longest.{IsOverLimit, IsTooLarge}
 use Rattle.imago_images.specs.declared.opening.Opening.{Opening}
 use Rattle.imago_images.specs.Way.{identity}
 use Rattle.imago_images.specs.Refusals.{IsRefused, IsUnknown}
@@ -35,16 +36,15 @@ identity_told (Some status_of) path status h = ap identity h
 
 -- a way from the image's own file leads to its end
 pub has_end :
-    (known : Option (List ℕ → List ℕ)) (statuses : Option (List ℕ → FileStatus)) (reals : Option (List ℕ → List ℕ))
+    {D St : Type 0} (view : D → View St) (x : FormatAccess D) (known : Option (List ℕ → List ℕ)) (statuses : Option (List ℕ → FileStatus)) (reals : Option (List ℕ → List ℕ))
     (how : Opening) (path : List ℕ) (format : ImageFormat) (file : ℕ × ℕ) (now : List (ℕ × ℕ))
     → HasIdentity statuses path file → now ≡ file ∷ []
-    → IfSome known (λ files. IsNoLonger how.longest how.accepted format (files path))
-    → IfSome known (λ files. HasShortL1 format (files path))
+    → IfSome known (λ files. IsImageIn view how files path format x)
     → IfSome known (λ files. IsEndingWay files statuses reals how now path format 199)
     → IfSome known (λ files. HasEnd files statuses reals how path format)
-has_end None statuses reals how path format file now has is short l1 h = tt
-has_end (Some files) statuses reals how path format file now has is short l1 h = (
-  (short, l1),
+has_end view x None statuses reals how path format file now has is image h = tt
+has_end view x (Some files) statuses reals how path format file now has is image h = (
+  first_limited how files path format image.0 image.1,
   (file, has, subst (λ (xs : List (ℕ × ℕ)). IsEndingWay files statuses reals how xs path format 199) is h),
 )
 
@@ -206,7 +206,7 @@ pub image_over :
     (path : List ℕ) (said : Option ImageFormat) (e : OpenError) (writable : Bool) (how : Opening)
     (format : ImageFormat) (size : ℕ) → size ≡ (view (driver x)).size
     → IfSome known (λ files. IsFormatBy said path (files path) format)
-    → IfSome known (λ files. IsImageIn view how.accepted others files path format x)
+    → IfSome known (λ files. IsImageIn view how files path format x)
     → IsRefused path (IsOverLimit how.longest size) e
     → IfSome known (λ files. IsImageRefused writable files statuses reals others how said path e)
 image_over view x None statuses reals others path said e writable how format size is by image out = tt

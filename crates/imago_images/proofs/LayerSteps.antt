@@ -1,7 +1,7 @@
 -- What a file is as a layer, where its host tells what files have.
 -- SPDX-License-Identifier: MIT
 use Rattle.std.proofs.Common.{◌≡◌, ℕ, List, Option, Some, None, Result, Ok, Err, IfOk, IfSome}
-use Rattle.std.proofs.Common.{refl, sym, ap, subst, length}
+use Rattle.std.proofs.Common.{refl, sym, ap, subst, length, OnOk}
 use Rattle.std.specs.Prelude.{option_map}
 use Rattle.imago_storage.specs.Features.{Features}
 use Rattle.imago_drivers.specs.Raw.{raw_place}
@@ -11,7 +11,9 @@ use Rattle.imago_vmdk.specs.declared.line.Accepted.{Accepted}
 use Rattle.imago_images.specs.declared.format.ImageFormat.{ImageFormat}
 use Rattle.imago_images.specs.declared.format.ImageFormat.TheVariants.{Raw, Vmdk, Qcow2}
 use Rattle.imago_images.specs.Formats.{SaysFormat}
+use Rattle.imago_qcow2.specs.Limit.{HasTablesWithin}
 use Rattle.imago_images.specs.HostBytes.{HasBytes}
+use Rattle.imago_images.specs.Longest.{HasFewTables}
 use Rattle.imago_images.specs.Layers.{IsDriverOf}
 use Rattle.imago_images.specs.Images.{IsLayerOf, LeadsTo}
 use Rattle.imago_images.specs.declared.opening.OtherFiles.{OtherFiles}
@@ -101,3 +103,48 @@ module _ {D St S L B E : Type 0} (view : D → View St) (features : S → Featur
       (λ files t. both_ok r (λ l. below l ≡ None) (λ l. below l ≡ None)
       (λ l. IfSome (below l) (λ b. SaysFormat (files path) (format_in b))) alone alone
       (λ l none same. subst (λ (o : Option B). IfSome o (λ b. SaysFormat (files path) (format_in b))) (sym none) tt))
+
+-- how many bytes the tables of a file have
+module _ {A E S : Type 0} (features : S → Features) (bytes : S → List ℕ) (known : Option (List ℕ → List ℕ))
+    (path : List ℕ) (file : S) (most : Option ℕ) (format : ImageFormat) where
+  pub few_told :
+      (r : Result A E) → format ≡ Qcow2 → IfSome known (λ files. HasBytes features bytes (files path) file)
+      → ((xs : List ℕ) → HasBytes features bytes xs file → OnOk r (HasTablesWithin most xs))
+      → OnOk r (IfSome known (λ files. HasFewTables most format (files path)))
+  few_told (Err e) is told few = tt
+  few_told (Ok x) is told few = each known told
+    where
+      each : (k : Option (List ℕ → List ℕ)) → IfSome k (λ files. HasBytes features bytes (files path) file)
+          → IfSome k (λ files. HasFewTables most format (files path))
+      each None t = tt
+      each (Some files) t =
+          let here : HasFewTables most Qcow2 (files path) = few (files path) t in
+          subst (λ (f : ImageFormat). HasFewTables most f (files path)) (sym is) here
+
+-- other formats have none
+module _ (known : Option (List ℕ → List ℕ)) (path : List ℕ) (most : Option ℕ) (format : ImageFormat) where
+  none_in : (k : Option (List ℕ → List ℕ)) → ((bytes : List ℕ) → HasFewTables most format bytes)
+      → IfSome k (λ files. HasFewTables most format (files path))
+  none_in None none = tt
+  none_in (Some files) none = none (files path)
+
+  no_tables : {A E : Type 0} (r : Result A E) → ((bytes : List ℕ) → HasFewTables most format bytes)
+      → OnOk r (IfSome known (λ files. HasFewTables most format (files path)))
+  no_tables (Ok x) none = none_in known none
+  no_tables (Err e) none = tt
+
+  none_raw : format ≡ Raw → (bytes : List ℕ) → HasFewTables most format bytes
+  none_raw is bytes =
+      let here : HasFewTables most Raw bytes = tt in
+      subst (λ (f : ImageFormat). HasFewTables most f bytes) (sym is) here
+
+  none_vmdk : format ≡ Vmdk → (bytes : List ℕ) → HasFewTables most format bytes
+  none_vmdk is bytes =
+      let here : HasFewTables most Vmdk bytes = tt in
+      subst (λ (f : ImageFormat). HasFewTables most f bytes) (sym is) here
+
+  pub few_raw : {A E : Type 0} (r : Result A E) → format ≡ Raw → OnOk r (IfSome known (λ files. HasFewTables most format (files path)))
+  few_raw r is = no_tables r (none_raw is)
+
+  pub few_vmdk : {A E : Type 0} (r : Result A E) → format ≡ Vmdk → OnOk r (IfSome known (λ files. HasFewTables most format (files path)))
+  few_vmdk r is = no_tables r (none_vmdk is)

@@ -5,29 +5,33 @@ use Rattle.imago_storage.specs.Error.{IsExtRefusal}
 use Rattle.imago_drivers.specs.Place.{Place}
 use Rattle.imago_drivers.specs.View.{View}
 use Rattle.imago_access.specs.declared.access.FormatAccess.{FormatAccess}
-use Rattle.imago_vmdk.specs.declared.line.Accepted.{Accepted}
 use Rattle.imago_images.specs.declared.format.ImageFormat.{ImageFormat}
 use Rattle.imago_images.specs.declared.format.ImageFormat.TheVariants.{Raw}
 use Rattle.imago_images.specs.declared.signature.Signature.{Signature}
 use Rattle.imago_images.specs.declared.failure.Reason.{Reason}
+use Rattle.imago_images.specs.declared.opening.Opening.{Opening}
 use Rattle.imago_images.specs.declared.opening.OtherFiles.{OtherFiles}
 use Rattle.imago_images.specs.declared.opening.OtherFiles.TheVariants as Others
 use Rattle.imago_images.specs.Layers.{SaysBacking}
 use Rattle.imago_images.specs.Signatures.{signature_of, other_signature_of}
 use Rattle.imago_images.specs.Images.{AreLayers, IsImageIn}
 
+-- the same opening, where no other files are opened
+abbrev pub opened_alone : Opening → Opening
+opened_alone how = record how { other_files = Others.None }
+
 -- the layers of the image of a file with that path, these bytes and that format, which names no
 -- other file, the top one first
-abbrev pub AreLayersOf : Accepted → List ℕ → List ℕ → ImageFormat → List (ℕ → Place) → Type 0
-AreLayersOf accepted bytes path format layers =
-    AreLayers accepted Others.None (λ _. bytes) path format layers
+abbrev pub AreLayersOf : Opening → List ℕ → List ℕ → ImageFormat → List (ℕ → Place) → Type 0
+AreLayersOf how bytes path format layers =
+    AreLayers (opened_alone how) (λ _. bytes) path format layers
 
 -- an image is that of a file with that path, these bytes and that format, which names no other file
 abbrev pub IsImageOf :
-    {D St : Type 0} → (D → View St) → Accepted → List ℕ → List ℕ → ImageFormat → FormatAccess D
+    {D St : Type 0} → (D → View St) → Opening → List ℕ → List ℕ → ImageFormat → FormatAccess D
     → Type 0
-IsImageOf view accepted bytes path format x =
-    IsImageIn view accepted Others.None (λ _. bytes) path format x
+IsImageOf view how bytes path format x =
+    IsImageIn view (opened_alone how) (λ _. bytes) path format x
 
 -- where no other files are opened, a qcow2 file with these bytes names none below it
 abbrev pub NamesNoOther : OtherFiles → List ℕ → Type 0

@@ -17,7 +17,7 @@ use Rattle.imago_images.specs.Refusals.{IsRefused, IsBySystem, IsUnread, IsUnsee
 use Rattle.imago_images.specs.Refusals.{IsInCircle, IsTooDeep, IsUnopened}
 use Rattle.imago_images.specs.Refusals.{HasExtentIn, IsNotHandedOut, IsUndescribed, IsUnwritten}
 use Rattle.imago_images.specs.Alone.{IsOfAnother}
-use Rattle.imago_images.specs.Longest.{IsTooLarge, IsNoLonger, HasShortL1}
+use Rattle.imago_images.specs.Longest.{IsTooLarge, IsLimited}
 use Rattle.imago_images.specs.declared.opening.Opening.{Opening}
 
 -- a file has that device and number, where the host tells what its files are
@@ -109,12 +109,6 @@ IsImageRefused writable files statuses reals others how said path e =
     ⊎ IsRefused path (IsOfAnother others said (files path)) e
     ⊎ ((format : ImageFormat) × IsFormatBy said path (files path) format
     × IsRefused path (IsTooLarge how.longest how.accepted format (files path)) e)
-
--- A file of that format is within the limits: its disk isn't longer than is allowed, and its L1
--- table, if it has one, has at most 32 MiB.
-abbrev pub IsLimited : Opening → ImageFormat → List ℕ → Type 0
-IsLimited how format bytes =
-    IsNoLonger how.longest how.accepted format bytes × HasShortL1 format bytes
 
 -- The file of the next path is one that the file of a path may have below it: it is let through, no
 -- link leads out of the folder, and it is within the limits.

@@ -14,6 +14,7 @@ use Rattle.imago_vmdk.specs.Disk.{described_place}
 use Rattle.imago_qcow2.specs.Entry.{qcow2_place}
 use Rattle.imago_file.specs.Names.{path_beside}
 use Rattle.imago_images.specs.declared.format.ImageFormat.{ImageFormat}
+use Rattle.imago_images.specs.declared.opening.Opening.{Opening}
 use Rattle.imago_images.specs.declared.opening.OtherFiles.{OtherFiles}
 use Rattle.imago_images.specs.declared.format.ImageFormat.TheVariants.{Raw, Vmdk, Qcow2}
 use Rattle.imago_images.specs.Formats.{IsFormatBelow}
@@ -22,6 +23,7 @@ use Rattle.imago_images.specs.Extents.{flat_names}
 use Rattle.imago_images.specs.Layers.{SaysBacking, size_by, IsDriverOf, ShowsLayers}
 use Rattle.imago_images.specs.Layers.{NeverWrites}
 use Rattle.imago_images.specs.Gate.{IsLetThrough, AreLetThrough}
+use Rattle.imago_images.specs.Longest.{IsLimited}
 
 -- The path of the file below a qcow2 file that has that path and these bytes, if there is one: the
 -- name that they have stands for a file, which is taken beside the path.
@@ -60,17 +62,19 @@ abbrev pub GoesOn : Option (List ℕ) → List (ℕ → Place) → (List ℕ →
 GoesOn None below rest = below ≡ []
 GoesOn (Some next) below rest = rest next
 
--- The layers of an image whose file has that path and that format, the top one first. Each lower
--- file is let through by the one above it, and has the format that this one says, or else the one
--- that it is taken to have itself.
+-- The layers of an image whose file has that path and that format, the top one first, by how it is
+-- opened. Each file is within the limits. Each lower one is let through by the one above it, and has
+-- the format that this one says, or else the one that it is taken to have itself.
 abbrev pub AreLayers :
-    Accepted → OtherFiles → (List ℕ → List ℕ) → List ℕ → ImageFormat → List (ℕ → Place) → Type 0
-AreLayers accepted others files path format [] = ⊥
-AreLayers accepted others files path format (place ∷ below) =
-    (next : Option (List ℕ)) × IsLayer accepted others files path format place next
-    × GoesOn next below (λ p. IsLetThrough others path p
+    Opening → (List ℕ → List ℕ) → List ℕ → ImageFormat → List (ℕ → Place) → Type 0
+AreLayers how files path format [] = ⊥
+AreLayers how files path format (place ∷ below) =
+    (next : Option (List ℕ))
+    × IsLayer how.accepted how.other_files files path format place next
+    × IsLimited how format (files path)
+    × GoesOn next below (λ p. IsLetThrough how.other_files path p
     × ((lower : ImageFormat) × IsFormatBelow (files path) p (files p) lower
-    × AreLayers accepted others files p lower below))
+    × AreLayers how files p lower below))
 
 -- a driver is that layer, and shows it
 abbrev pub IsLayerOf :
@@ -82,11 +86,11 @@ IsLayerOf view accepted others files path format inner next =
 
 -- an image is that of the file of a path, which has that format: it shows the layers of the files
 abbrev pub IsImageIn :
-    {D St : Type 0} → (D → View St) → Accepted → OtherFiles → (List ℕ → List ℕ) → List ℕ
-    → ImageFormat → FormatAccess D → Type 0
-IsImageIn view accepted others files path format x =
-    (layers : List (ℕ → Place)) × AreLayers accepted others files path format layers
-    × ShowsLayers view x (size_by accepted format (files path)) layers
+    {D St : Type 0} → (D → View St) → Opening → (List ℕ → List ℕ) → List ℕ → ImageFormat
+    → FormatAccess D → Type 0
+IsImageIn view how files path format x =
+    (layers : List (ℕ → Place)) × AreLayers how files path format layers
+    × ShowsLayers view x (size_by how.accepted format (files path)) layers
 
 -- an image can be written to: its driver writes, and no prepared mapping waits there; and its first
 -- storage is open for that

@@ -7,11 +7,12 @@ use Rattle.imago_vmdk.specs.declared.line.Accepted.{Accepted}
 use Rattle.imago_vmdk.specs.Reading.{reading_of}
 use Rattle.imago_qcow2.specs.Header.{header_of}
 use Rattle.imago_qcow2.specs.Fault.{error_of}
-use Rattle.imago_qcow2.specs.Limit.{IsWithin}
+use Rattle.imago_qcow2.specs.Limit.{IsWithin, HasTablesWithin}
 use Rattle.imago_qcow2.specs.Numbers.{be32}
 use Rattle.imago_images.specs.declared.failure.Reason.{Reason}
 use Rattle.imago_images.specs.declared.format.ImageFormat.{ImageFormat}
 use Rattle.imago_images.specs.declared.format.ImageFormat.TheVariants.{Raw, Vmdk, Qcow2}
+use Rattle.imago_images.specs.declared.opening.Opening.{Opening}
 use Rattle.imago_images.specs.Layers.{size_by}
 
 -- the disk of a layer's file, which has that format and these bytes, has at most so many bytes, if
@@ -51,7 +52,21 @@ HasShortL1 Raw bytes = Unit {0}
 HasShortL1 Vmdk bytes = Unit {0}
 HasShortL1 Qcow2 bytes = l1_length bytes ≤ 2 ^ 25
 
--- it has more, and how much it has is told
+-- the tables of a layer's file, if its format has any, have at most so many bytes, if that is
+-- limited
+abbrev pub HasFewTables : Option ℕ → ImageFormat → List ℕ → Type 0
+HasFewTables most Raw bytes = Unit {0}
+HasFewTables most Vmdk bytes = Unit {0}
+HasFewTables most Qcow2 bytes = HasTablesWithin most bytes
+
+-- A file of that format is within the limits: its disk isn't longer than is allowed, its L1 table,
+-- if it has one, has at most 32 MiB, and its tables have no more bytes than are allowed.
+abbrev pub IsLimited : Opening → ImageFormat → List ℕ → Type 0
+IsLimited how format bytes =
+    IsNoLonger how.longest how.accepted format bytes × HasShortL1 format bytes
+    × HasFewTables how.tables format bytes
+
+-- the L1 table has more, and how much it has is told
 abbrev pub HasLongL1 : ImageFormat → List ℕ → Reason → Type 0
 HasLongL1 format bytes (Reason.L1TooLong told) =
     (format ≡ Qcow2) × (told ≡ l1_length bytes) × (2 ^ 25 < told)

@@ -1,7 +1,7 @@
 // SPDX-License-Identifier: MIT
 //! A layer by itself: a file in a format, and the name of the file below it.
 ghost use Rattle.std.specs.Prelude.{◌≡◌, ◌≤◌, ℕ, ◌⊎◌, List, Option, None, Some, IfOk, IfErr, IfSome, IsErr};
-ghost use Rattle.std.specs.Prelude.{IsTrue, MatchResult, [], ◌∷◌, length, map, option_map, true};
+ghost use Rattle.std.specs.Prelude.{IsTrue, MatchResult, OnOk, [], ◌∷◌, length, map, option_map, true};
 ghost use Rattle.std.specs.String.{string_bytes};
 ghost use Rattle.imago_drivers.specs.Raw.{raw_place};
 ghost use Rattle.imago_qcow2.specs.Entry.{disk_size, qcow2_place};
@@ -11,10 +11,10 @@ ghost use Rattle.imago_images.specs.Layers.{IsDriverOf, NeverWrites, tables_in};
 ghost use Rattle.imago_images.specs.Images.{IsLayerOf, LeadsTo};
 ghost use Rattle.imago_images.specs.ImageFiles.{AreNamed, layer_paths};
 ghost use Rattle.imago_images.specs.Layers.{SaysBacking};
-ghost use Rattle.imago_images.specs.Longest.{IsNoLonger};
+ghost use Rattle.imago_images.specs.Longest.{IsNoLonger, HasFewTables};
 ghost use Rattle.imago_file.specs.Names.{path_beside as path_beside_file};
 ghost use Rattle.imago_qcow2.specs.Opening.{IsOpened};
-ghost use Rattle.imago_qcow2.specs.Limit.{IsWithin, loaded_length};
+ghost use Rattle.imago_qcow2.specs.Limit.{IsWithin, HasTablesWithin, loaded_length};
 ghost use Rattle.imago_qcow2.specs.Qcow2Image.{storage_in, header_in, loaded_in};
 ghost use Rattle.imago_images.specs.declared.format.ImageFormat.TheVariants as Of;
 ghost use Rattle.imago_images.specs.Formats.{SaysFormat, IsFormatBy};
@@ -105,6 +105,8 @@ pub fn open_layer<'a, H: Files>(
     ensures read_only { IfOk result (λ l. NeverWrites
         ⟦<AnyDriver<PathStorage<'a, H>> as FormatDriverInstance>⟧.view l.driver) }
     ensures tables { IfOk result (λ l. IsWithin how.tables (tables_in l.driver)) }
+    ensures few { OnOk result (IfSome (H.contents host.now)
+        (λ files. HasFewTables how.tables format (files path.now))) }
     ensures refused { IfErr result (λ e. IfSome (H.contents host.now)
         (λ files. IsLayerRefused files (H.statuses host.now) (H.real_paths host.now)
         how.other_files how path.now format e)) }
@@ -197,6 +199,8 @@ fn qcow2_layer<H: Files, S: Storage>(
     ensures files { (S.features file).filename ≡ Some path.now → IfOk result (λ l. AreNamed
         (⟦<AnyDriver<S> as FormatDriverInstance>⟧.view l.driver).stores (path.now ∷ [])) }
     ensures tables { IfOk result (λ l. IsWithin most_tables (tables_in l.driver)) }
+    ensures few { (bytes : List ℕ) → HasBytes S.features S.bytes bytes file
+        → OnOk result (HasTablesWithin most_tables bytes) }
     ensures read_only { IfOk result (λ l. NeverWrites
         ⟦<AnyDriver<S> as FormatDriverInstance>⟧.view l.driver) }
     ensures refused { IfErr result (λ e. IfSome (H.contents host.now)
@@ -218,6 +222,8 @@ fn open_limited<H: Files, S: Storage>(
     ensures opened { IfOk result (λ d. (storage_in d ≡ «file»)
         × IsOpened (S.features file) (S.bytes file) (header_in d)) }
     ensures within { IfOk result (λ d. IsWithin most_tables (loaded_length (loaded_in d))) }
+    ensures few { (bytes : List ℕ) → HasBytes S.features S.bytes bytes file
+        → OnOk result (HasTablesWithin most_tables bytes) }
     ensures refused { IfErr result (λ e. IfSome (H.contents host.now)
         (λ files. HasBytes S.features S.bytes (files path.now) file
         → IsRefused path.now (IsUnopened most_tables (files path.now)) e)) }
@@ -260,6 +266,8 @@ pub fn open_qcow2_within<H: Files, S: Storage>(
     ensures opened { IfOk result (λ d. (storage_in d ≡ «file»)
         × IsOpened (S.features file) (S.bytes file) (header_in d)) }
     ensures within { IfOk result (λ d. loaded_length (loaded_in d) ≤ most_tables) }
+    ensures few { (bytes : List ℕ) → HasBytes S.features S.bytes bytes file
+        → OnOk result (HasTablesWithin (Some most_tables) bytes) }
     ensures refused { IfErr result (λ e. IfSome (H.contents host.now)
         (λ files. HasBytes S.features S.bytes (files path.now) file
         → IsRefused path.now (IsUnopened (Some most_tables) (files path.now)) e)) }

@@ -77,13 +77,13 @@ pub fn open_image<'a, H: Files>(
         (λ files. IsFormatBy how.format path.now (files path.now) r.0)) }
     ensures image { IfOk result (λ r. IfSome (H.contents host.now)
         (λ files. IsImageIn ⟦<AnyDriver<PathStorage<'a, H>> as FormatDriverInstance>⟧.view
-        how.accepted how.other_files files path.now r.0 r.1)) }
+        how files path.now r.0 r.1)) }
     ensures files { IfOk result (λ r. IfSome (H.contents host.now)
         (λ files. HasFiles ⟦<AnyDriver<PathStorage<'a, H>> as FormatDriverInstance>⟧.view
         how.accepted files path.now r.0 r.1)) }
     ensures alone { IfOk result (λ r. how.other_files ≡ Others.None → IfSome (H.contents host.now)
         (λ files. IsImageOf ⟦<AnyDriver<PathStorage<'a, H>> as FormatDriverInstance>⟧.view
-        how.accepted (files path.now) path.now r.0 r.1)) }
+        how (files path.now) path.now r.0 r.1)) }
     ensures one { IfOk result (λ r. IfSome (H.contents host.now)
         (λ files. IsOfOneFormat how.other_files how.format (files path.now))) }
     ensures end { IfOk result (λ r. IfSome (H.contents host.now)
@@ -159,7 +159,7 @@ pub fn open_image_to_write<H: WritableFiles>(
         (λ files. IsFormatBy how.format path.now (files path.now) Of.Raw)) }
     ensures image { IfOk result (λ x. IfSome (H.contents host.old)
         (λ files. IsImageIn ⟦<AnyDriver<FileStorage<H::File>> as FormatDriverInstance>⟧.view
-        how.accepted how.other_files files path.now Of.Raw x)) }
+        how files path.now Of.Raw x)) }
     ensures one { OnOk result (IfSome (H.contents host.old)
         (λ files. IsOfOneFormat how.other_files how.format (files path.now))) }
     ensures writable { IfOk result
@@ -246,9 +246,10 @@ fn open_chain<'a, H: Files>(
     requires depth { length (entered way.old) + most ≡ 200 }
     requires longest { IfSome (H.contents host.now)
         (λ files. IsNoLonger how.longest how.accepted format (files path.now)) }
+    requires l1 { IfSome (H.contents host.now) (λ files. HasShortL1 format (files path.now)) }
     ensures image { IfOk result (λ x. IfSome (H.contents host.now)
         (λ files. IsImageIn ⟦<AnyDriver<PathStorage<'a, H>> as FormatDriverInstance>⟧.view
-        how.accepted how.other_files files path.now format x)) }
+        how files path.now format x)) }
     ensures files { IfOk result (λ x. IfSome (H.contents host.now)
         (λ files. HasFiles ⟦<AnyDriver<PathStorage<'a, H>> as FormatDriverInstance>⟧.view
         how.accepted files path.now format x)) }

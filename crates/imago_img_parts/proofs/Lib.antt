@@ -1,6 +1,7 @@
 -- SPDX-License-Identifier: MIT
 mod Disks
 mod NewFiles
+mod Measures
 mod Overwritten
 mod Resizes
 mod Told

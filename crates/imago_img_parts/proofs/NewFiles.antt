@@ -16,14 +16,12 @@ use Rattle.imago_words.specs.declared.settings.Settings.{Settings}
 use Rattle.imago_access.specs.declared.access.FormatAccess.{FormatAccess}
 use Rattle.imago_access.specs.Chain.{driver, tells_bytes}
 use Rattle.imago_access.specs.Disk.{disk, value_at}
-use Rattle.imago_vmdk.specs.declared.line.Accepted.{Accepted}
 use Rattle.imago_qcow2_new.specs.declared.format.Format.{Format}
 use Rattle.imago_qcow2_new.specs.declared.layout.Layout.{Layout}
 use Rattle.imago_qcow2_new.specs.Layout.{IsLayoutOf, StoresNothing, file_length, size_of}
 use Rattle.imago_qcow2_new.specs.Image.{IsNewFile, IsNewFileIn}
 use Rattle.imago_qcow2_new.specs.Names.{HasNoNames}
 use Rattle.imago_images.specs.declared.format.ImageFormat.{ImageFormat}
-use Rattle.imago_images.specs.declared.opening.OtherFiles.{OtherFiles}
 use Rattle.imago_images.specs.Formats.{IsFormatBy}
 use Rattle.imago_images.specs.Images.{IsImageIn}
 use Rattle.imago_words.specs.declared.command.Convert.{Convert}
@@ -33,14 +31,14 @@ use Rattle.imago_file.specs.Names.{path_beside}
 use Rattle.imago_img_parts.specs.Disks.{HasSize, IsConverted}
 use Rattle.imago_img_parts.specs.Openings.{how_by}
 use Rattle.imago_img_parts.specs.Files.{Around, begun, ended, with_file, IsMade, IsSoOnceCleared, IsWhole}
-use Rattle.imago_img_parts.specs.NewFiles.{HasNamesBelow, IsCopyBy, IsEmptyFile, IsFilledWith, IsNewImage, IsNewlyMade, IsQcow2Copy, IsSizeBelow, IsSizeBy, IsSizeOf, format_by}
-use Rattle.imago_img_parts.proofs.Disks.{begun_ended, disk_length, on_ok, shows_disk}
+use Rattle.imago_img_parts.specs.NewFiles.{HasNamesBelow, IsCopyBy, IsEmptyFile, IsFilledWith, IsNewImage, IsNewlyMade, IsQcow2Copy, IsAboveImage, IsPlanned, IsSizeBelow, IsSizeBy, format_by}
+use Rattle.imago_img_parts.proofs.Disks.{image_sized, begun_ended, disk_length, on_ok, shows_disk}
 
 then : {A E : Type 0} {P Q : Type 0} (r : Result A E) → (P → Q) → OnOk r P → OnOk r Q
 then (Ok x) f h = f h
 then (Err e) f h = tt
 
-always : {A E : Type 0} {P : Type 0} (r : Result A E) → P → OnOk r P
+pub always : {A E : Type 0} {P : Type 0} (r : Result A E) → P → OnOk r P
 always (Ok x) h = h
 always (Err e) h = tt
 
@@ -128,12 +126,12 @@ each_of : (known : Option (List ℕ → List ℕ)) (P : (List ℕ → List ℕ) 
 each_of None P f = tt
 each_of (Some files) P f = f files
 
-module _ (accepted : Accepted) (others : OtherFiles) (said : Option ImageFormat) (from : List ℕ) where
+module _ (how : Opening) (from : List ℕ) where
   -- a copy by a layout is one in the layout's format
   pub copy_in : (format : Format) (l : Layout) (planned : (size : ℕ) × IsLayoutOf format size l × HasNoNames l)
       (known : Option (List ℕ → List ℕ))
-      → IfSome known (λ files. (file : List ℕ) → IsCopyBy accepted others said from l files file
-      → IsQcow2Copy accepted others said from format files file)
+      → IfSome known (λ files. (file : List ℕ) → IsCopyBy how from l files file
+      → IsQcow2Copy how from format files file)
   copy_in format l (size, is, none) known = each_of known _ (λ files file (d, shows, rounded, new).
       (d, shows, (l, record { disk = rounded; version = is.version; bits = is.bits; gaps = is.gaps }, none, new)))
 
@@ -141,11 +139,11 @@ module _ (accepted : Accepted) (others : OtherFiles) (said : Option ImageFormat)
     -- what was put into a target is a copy
     pub copied : (l : Layout) (known : Option (List ℕ → List ℕ)) (format : ImageFormat)
         (x : FormatAccess D) (old new : Option (List ℕ))
-        → IfSome known (λ files. IsFormatBy said from (files from) format)
-        → IfSome known (λ files. IsImageIn view accepted others files from format x)
+        → IfSome known (λ files. IsFormatBy how.format from (files from) format)
+        → IfSome known (λ files. IsImageIn view how files from format x)
         → size_of l ≡ next_multiple_of (view (driver x)).size 512
         → (IsTrue (tells_bytes view x) → IsNewFileIn l (value_at (disk view x)) old new)
-        → IfSome known (λ files. IsFilledWith (IsCopyBy accepted others said from l files) (file_length l) old new)
+        → IfSome known (λ files. IsFilledWith (IsCopyBy how from l files) (file_length l) old new)
     copied l None format x old new by image rounded put = tt
     copied l (Some files) format x None new by image rounded put = tt
     copied l (Some files) format x (Some had) new by image rounded put =
@@ -153,7 +151,7 @@ module _ (accepted : Accepted) (others : OtherFiles) (said : Option ImageFormat)
         let long : (view (driver x)).size ≡ length (disk view x) = disk_length view x (view (driver x)).size refl in (
           file,
           is,
-          (disk view x, shows_disk view accepted others said files from format x by image, rounded ∙ ap (λ n. next_multiple_of n 512) long, made),
+          (disk view x, shows_disk view how files from format x by image, rounded ∙ ap (λ n. next_multiple_of n 512) long, made),
           made.written.len,
         )
 
@@ -173,7 +171,7 @@ filled_zeroes count (Some had) new empty put =
 
 -- the file of a new image
 pub new_image : (c : Create) (size : ℕ) (known : Option (List ℕ → List ℕ)) (format : NewFormat) → c.format ≡ format
-    → IfSome known (λ files. IsSizeOf c files size)
+    → IfSome known (λ files. IsPlanned c files size)
     → IfSome known (λ files. (file : List ℕ) → IsEmptyFile format c.backing size file → IsNewImage c files file)
 new_image c size None format e sized = tt
 new_image c size (Some files) format e sized = λ file is.
@@ -186,14 +184,27 @@ sized_by c said below None h = tt
 sized_by c None below (Some files) h = h
 sized_by c (Some size) below (Some files) h = refl
 
+-- what is below is an image, whose size is told
+pub above_image : (c : Create) (b : Option Backing) (below : ℕ) (known : Option (List ℕ → List ℕ))
+    → IfSome known (λ files. IsSizeBelow c b files below) → IfSome known (λ files. IsAboveImage c b files)
+above_image c b below None h = tt
+above_image c None below (Some files) h = tt
+above_image c (Some b) below (Some files) h = image_sized (how_by (Some b.format) c.opening) files (path_beside c.target.now b.file.now) below h
+
+pub planned_so : (c : Create) (size : ℕ) (known : Option (List ℕ → List ℕ))
+    → IfSome known (λ files. IsSizeBy c c.size files size) → IfSome known (λ files. IsAboveImage c c.backing files)
+    → IfSome known (λ files. IsPlanned c files size)
+planned_so c size None h k = tt
+planned_so c size (Some files) h k = (h, k)
+
 -- the size of the layer below, by its path and how it is opened
 pub below_sized : (c : Create) (b : Backing) (path : List ℕ) (how : Opening) (known : Option (List ℕ → List ℕ))
     {E : Type 0} (r : Result ℕ E) → path ≡ path_beside c.target.now b.file.now → how ≡ how_by (Some b.format) c.opening
-    → IfOk r (λ size. IfSome known (λ files. HasSize how.accepted how.format files path size))
+    → IfOk r (λ size. IfSome known (λ files. HasSize how files path size))
     → IfOk r (λ size. IfSome known (λ files. IsSizeBelow c (Some b) files size))
 below_sized c b path how known r e f h =
-    subst (λ (o : Opening). IfOk r (λ size. IfSome known (λ files. HasSize o.accepted o.format files (path_beside c.target.now b.file.now) size))) f
-    (subst (λ (p : List ℕ). IfOk r (λ size. IfSome known (λ files. HasSize how.accepted how.format files p size))) e h)
+    subst (λ (o : Opening). IfOk r (λ size. IfSome known (λ files. HasSize o files (path_beside c.target.now b.file.now) size))) f
+    (subst (λ (p : List ℕ). IfOk r (λ size. IfSome known (λ files. HasSize how files p size))) e h)
 
 pub empty_by : (settings : Settings) (below : Option Backing) (size : ℕ) (l : Layout)
     → IsLayoutOf (format_by settings) size l → HasNamesBelow below l
@@ -206,8 +217,7 @@ empty_by settings below size l is names none known = each_of known _ (λ files f
 module _ (how : Opening) (c : Convert) (old new : Option (List ℕ → List ℕ)) (before after : Option Around)
     {E : Type 0} (r : Result (Unit {0}) E) where
   pub converted_raw : c.target_format ≡ New.Raw
-      → OnOk r (IsSoOnceCleared c.force old before c.target.now (λ files around. IsConverted how.accepted how.other_files
-      how.format c.force files new around after c.source.now c.target.now))
+      → OnOk r (IsSoOnceCleared c.force old before c.target.now (λ files around. IsConverted how c.force files new around after c.source.now c.target.now))
       → OnOk r (IsNewlyConverted how c old new before after 0)
   converted_raw e h = then r
       (λ k. inl (
@@ -219,7 +229,7 @@ module _ (how : Opening) (c : Convert) (old new : Option (List ℕ → List ℕ)
   pub converted_qcow2 : (settings : Settings) (format : Format) → format ≡ format_by settings
       → c.target_format ≡ New.Qcow2 settings
       → OnOk r (IsSoOnceCleared c.force old before c.target.now (λ files around. IsNewlyMade
-      (IsQcow2Copy how.accepted how.other_files how.format c.source.now format) c.force files new around after c.target.now))
+      (IsQcow2Copy how c.source.now format) c.force files new around after c.target.now))
       → OnOk r (IsNewlyConverted how c old new before after 0)
   converted_qcow2 settings format is e h = then r
       (λ k. inl (
@@ -227,5 +237,5 @@ module _ (how : Opening) (c : Convert) (old new : Option (List ℕ → List ℕ)
         subst (λ (f : NewFormat). IsSoOnceCleared c.force old before c.target.now
             (λ files around. IsConvertedTo f how c files new around after)) (sym e)
             (subst (λ (f : Format). IsSoOnceCleared c.force old before c.target.now (λ files around. IsNewlyMade
-            (IsQcow2Copy how.accepted how.other_files how.format c.source.now f) c.force files new around after c.target.now)) is k),
+            (IsQcow2Copy how c.source.now f) c.force files new around after c.target.now)) is k),
       )) h

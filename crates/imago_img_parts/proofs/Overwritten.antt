@@ -8,9 +8,8 @@ use Rattle.imago_access.specs.declared.access.FormatAccess.{FormatAccess}
 use Rattle.imago_access.specs.Chain.{tells_bytes}
 use Rattle.imago_access.specs.Disk.{disk}
 use Rattle.imago_copy.specs.Copies.{IsDiskPartlyPut}
-use Rattle.imago_vmdk.specs.declared.line.Accepted.{Accepted}
 use Rattle.imago_images.specs.declared.format.ImageFormat.{ImageFormat}
-use Rattle.imago_images.specs.declared.opening.OtherFiles.{OtherFiles}
+use Rattle.imago_images.specs.declared.opening.Opening.{Opening}
 use Rattle.imago_images.specs.Formats.{IsFormatBy}
 use Rattle.imago_images.specs.Images.{IsImageIn}
 use Rattle.imago_img_parts.specs.Files.{IsOverwritten}
@@ -22,24 +21,24 @@ pub on_refusal : {A E : Type 0} (r : Result A E) (P : Type 0) → P → OnErr r 
 on_refusal (Ok x) P h = tt
 on_refusal (Err e) P h = h
 
-module _ (accepted : Accepted) (others : OtherFiles) (said : Option ImageFormat) where
+module _ (how : Opening) where
   -- its first bytes are no more
   begun_sized : (files : List ℕ → List ℕ) (path : List ℕ) (size : ℕ) (bytes : List ℕ)
-      → HasSize accepted said files path size → IsBegunDisk accepted others said files path bytes
+      → HasSize how files path size → IsBegunDisk how files path bytes
       → length bytes ≤ size
   begun_sized files path size bytes sized begun = ⊎_elim
       (λ (none : bytes ≡ []).
       let zero : length bytes ≡ 0 = ap length none in
       omega (arith, zero))
       (λ (d, shows, are).
-      let all : length d ≡ size = disk_sized accepted others said files path size d sized shows in
+      let all : length d ≡ size = disk_sized how files path size d sized shows in
       let some : length bytes ≡ min (length bytes) (length d) = sym (length-map bytes Byte) ∙ ap length are ∙ length-take (length bytes) d in
       omega (arith, all, some))
       begun
 
   -- nothing was put behind what was there
   pub nothing_appended : (known : Option (List ℕ → List ℕ)) (path : List ℕ) (s : Option (List ℕ))
-      → IsDiskPartlyAppended accepted others said known path s s
+      → IsDiskPartlyAppended how known path s s
   nothing_appended None path s = tt
   nothing_appended (Some files) path None = tt
   nothing_appended (Some files) path (Some old) =
@@ -47,7 +46,7 @@ module _ (accepted : Accepted) (others : OtherFiles) (said : Option ImageFormat)
 
   -- nothing was put over a file
   pub nothing_over : (known new : Option (List ℕ → List ℕ)) (from to : List ℕ) → new ≡ known
-      → IsPartlyConvertedOver accepted others said known new from to
+      → IsPartlyConvertedOver how known new from to
   nothing_over None new from to e = tt
   nothing_over (Some files) new from to e =
       let least : 0 ≤ length (files to) = omega arith in
@@ -58,15 +57,15 @@ module _ (accepted : Accepted) (others : OtherFiles) (said : Option ImageFormat)
     pub partly_appended :
         (known : Option (List ℕ → List ℕ)) (path : List ℕ) (format : ImageFormat)
         (x : FormatAccess D) (old new : Option (List ℕ))
-        → IfSome known (λ files. IsFormatBy said path (files path) format)
-        → IfSome known (λ files. IsImageIn view accepted others files path format x)
+        → IfSome known (λ files. IsFormatBy how.format path (files path) format)
+        → IfSome known (λ files. IsImageIn view how files path format x)
         → (IsTrue (tells_bytes view x) → IsDiskPartlyPut (disk view x) old new)
-        → IsDiskPartlyAppended accepted others said known path old new
+        → IsDiskPartlyAppended how known path old new
     partly_appended None path format x old new by image put = tt
     partly_appended (Some files) path format x None new by image put = tt
     partly_appended (Some files) path format x (Some old) new by image put =
         let (bytes, are, then) = put image.2.0 in
-        let shown : ShowsDisk accepted others said files path (disk view x) = shows_disk view accepted others said files path format x by image in
+        let shown : ShowsDisk how files path (disk view x) = shows_disk view how files path format x by image in
         (bytes, inr (disk view x, shown, are), then)
 
   -- The calls that writing over a file makes: it is opened, which changes no file, filled, and then
@@ -74,7 +73,7 @@ module _ (accepted : Accepted) (others : OtherFiles) (said : Option ImageFormat)
   module _ {E : Type 0} (known mid new : Option (List ℕ → List ℕ)) (from to : List ℕ) (size : ℕ)
       (made later : Option (List ℕ × ℕ)) (old put : Option (List ℕ)) (filled : Result (Unit {0}) E)
       (same : mid ≡ known) (kept : later ≡ made)
-      (sized : IfSome known (λ files. HasSize accepted said files from size))
+      (sized : IfSome known (λ files. HasSize how files from size))
       (fits : IfSome known (λ files. size ≤ length (files to)))
       (empty : IfSome known (λ files. old ≡ Some []))
       (opened : IfSome known (λ files. made ≡ Some (to, length (files to))))
@@ -88,15 +87,15 @@ module _ (accepted : Accepted) (others : OtherFiles) (said : Option ImageFormat)
         subst (λ (k : Option (List ℕ → List ℕ)). IsOverwritten k new to put) (same ∙ is) over
 
     whole_over : (k : Option (List ℕ → List ℕ)) → known ≡ k
-        → IsDiskAppended accepted others said k from old put
-        → IsConvertedOver accepted others said k new from to
+        → IsDiskAppended how k from old put
+        → IsConvertedOver how k new from to
     whole_over None is h = tt
     whole_over (Some files) is h =
         let first : old ≡ Some [] = subst (λ (k : Option (List ℕ → List ℕ)). IfSome k (λ fs. old ≡ Some [])) is empty in
-        let (bytes, has, then) = subst (λ (o : Option (List ℕ)). IsDiskAppended accepted others said (Some files) from o put) first h in
-        let has_size : HasSize accepted said files from size = subst (λ (k : Option (List ℕ → List ℕ)). IfSome k (λ fs. HasSize accepted said fs from size)) is sized in
+        let (bytes, has, then) = subst (λ (o : Option (List ℕ)). IsDiskAppended how (Some files) from o put) first h in
+        let has_size : HasSize how files from size = subst (λ (k : Option (List ℕ → List ℕ)). IfSome k (λ fs. HasSize how fs from size)) is sized in
         let room : size ≤ length (files to) = subst (λ (k : Option (List ℕ → List ℕ)). IfSome k (λ fs. size ≤ length (fs to))) is fits in
-        let all : length bytes ≡ size = sym (length-map bytes Byte) ∙ disk_sized accepted others said files from size (map Byte bytes) has_size has in (
+        let all : length bytes ≡ size = sym (length-map bytes Byte) ∙ disk_sized how files from size (map Byte bytes) has_size has in (
           bytes,
           has,
           omega (arith, all, room),
@@ -104,13 +103,13 @@ module _ (accepted : Accepted) (others : OtherFiles) (said : Option ImageFormat)
         )
 
     part_over : (k : Option (List ℕ → List ℕ)) → known ≡ k
-        → IsDiskPartlyAppended accepted others said k from old put
-        → IsPartlyConvertedOver accepted others said k new from to
+        → IsDiskPartlyAppended how k from old put
+        → IsPartlyConvertedOver how k new from to
     part_over None is h = tt
     part_over (Some files) is h =
         let first : old ≡ Some [] = subst (λ (k : Option (List ℕ → List ℕ)). IfSome k (λ fs. old ≡ Some [])) is empty in
-        let (bytes, begun, then) = subst (λ (o : Option (List ℕ)). IsDiskPartlyAppended accepted others said (Some files) from o put) first h in
-        let has_size : HasSize accepted said files from size = subst (λ (k : Option (List ℕ → List ℕ)). IfSome k (λ fs. HasSize accepted said fs from size)) is sized in
+        let (bytes, begun, then) = subst (λ (o : Option (List ℕ)). IsDiskPartlyAppended how (Some files) from o put) first h in
+        let has_size : HasSize how files from size = subst (λ (k : Option (List ℕ → List ℕ)). IfSome k (λ fs. HasSize how fs from size)) is sized in
         let room : size ≤ length (files to) = subst (λ (k : Option (List ℕ → List ℕ)). IfSome k (λ fs. size ≤ length (fs to))) is fits in
         let most : length bytes ≤ size = begun_sized files from size bytes has_size begun in (
           bytes,
@@ -119,21 +118,21 @@ module _ (accepted : Accepted) (others : OtherFiles) (said : Option ImageFormat)
           subst (λ (o : Option (List ℕ)). IsOverwritten (Some files) new to o) then (closed_there files is),
         )
 
-    pub written_over : OnOk filled (IsDiskAppended accepted others said mid from old put)
-        → OnOk filled (IsConvertedOver accepted others said known new from to)
+    pub written_over : OnOk filled (IsDiskAppended how mid from old put)
+        → OnOk filled (IsConvertedOver how known new from to)
     written_over h = each filled h
       where
-        each : (r : Result (Unit {0}) E) → OnOk r (IsDiskAppended accepted others said mid from old put) → OnOk r (IsConvertedOver accepted others said known new from to)
+        each : (r : Result (Unit {0}) E) → OnOk r (IsDiskAppended how mid from old put) → OnOk r (IsConvertedOver how known new from to)
         each (Err _) k = tt
-        each (Ok _) k = whole_over known refl (subst (λ (m : Option (List ℕ → List ℕ)). IsDiskAppended accepted others said m from old put) same k)
+        each (Ok _) k = whole_over known refl (subst (λ (m : Option (List ℕ → List ℕ)). IsDiskAppended how m from old put) same k)
 
-    pub partly_over : OnErr filled (IsDiskPartlyAppended accepted others said mid from old put)
-        → OnErr filled (IsPartlyConvertedOver accepted others said known new from to)
+    pub partly_over : OnErr filled (IsDiskPartlyAppended how mid from old put)
+        → OnErr filled (IsPartlyConvertedOver how known new from to)
     partly_over h = each filled h
       where
-        each : (r : Result (Unit {0}) E) → OnErr r (IsDiskPartlyAppended accepted others said mid from old put) → OnErr r (IsPartlyConvertedOver accepted others said known new from to)
+        each : (r : Result (Unit {0}) E) → OnErr r (IsDiskPartlyAppended how mid from old put) → OnErr r (IsPartlyConvertedOver how known new from to)
         each (Ok _) k = tt
-        each (Err _) k = part_over known refl (subst (λ (m : Option (List ℕ → List ℕ)). IsDiskPartlyAppended accepted others said m from old put) same k)
+        each (Err _) k = part_over known refl (subst (λ (m : Option (List ℕ → List ℕ)). IsDiskPartlyAppended how m from old put) same k)
 
 -- where the file that is opened has a path, the one that is closed has it
 pub still_there : (known mid : Option (List ℕ → List ℕ)) {A : Type 0} (before after : Option A)

@@ -29,7 +29,7 @@ must_be_same false m n e is = absurd (false≢true is)
 told : (how : Opening) (other : Option ImageFormat) (same_size : Bool) (files : List ℕ → List ℕ)
     (first second : List ℕ) (size other_size : ℕ) (found : Option ℕ) (skips : Bool)
     → is_left_out same_size size other_size ≡ skips
-    → AreCompared how.accepted how.other_files how.format other same_size files first second size
+    → AreCompared how other same_size files first second size
     other_size found
     → AreToldApart how other same_size files first second (not skips && not (is_some found))
 told how other same_size files first second size other_size found true e (x, y, a, b, l, m, h) =
@@ -44,7 +44,7 @@ pub told_apart : (how : Opening) (other : Option ImageFormat) (same_size : Bool)
     (contents : Option (List ℕ → List ℕ)) (first second : List ℕ) (size other_size : ℕ)
     (found : Option ℕ) (alike : Bool)
     → alike ≡ (not (is_left_out same_size size other_size) && not (is_some found))
-    → IfSome contents (λ files. AreCompared how.accepted how.other_files how.format other same_size
+    → IfSome contents (λ files. AreCompared how other same_size
     files first second size other_size found)
     → IfSome contents (λ files. AreToldApart how other same_size files first second alike)
 told_apart how other same_size contents first second size other_size found alike is h =

@@ -20,7 +20,8 @@ use Rattle.imago_img_parts.specs.declared.run.Outcome.{Outcome}
 use Rattle.imago_img_parts.specs.declared.run.Outcome.TheVariants.{Fine, Unlike, Checked, Vetted}
 use Rattle.imago_img_parts.specs.Files.{Around, IsSoOnceCleared}
 use Rattle.imago_img_parts.specs.Disks.{IsConverted, IsConvertedOver, IsPartlyConvertedOver}
-use Rattle.imago_img_parts.specs.Disks.{AreAlike, AreUnlike}
+use Rattle.imago_img_parts.specs.Disks.{IsImage, AreAlike, AreUnlike}
+use Rattle.imago_img_parts.specs.Measures.{IsMeasured}
 use Rattle.imago_img_parts.specs.NewFiles.{IsNewImage, IsNewlyMade, IsQcow2Copy, format_by}
 use Rattle.imago_img_parts.specs.Checked.{IsChecked}
 use Rattle.imago_img_parts.specs.Described.{IsDescribed}
@@ -59,9 +60,9 @@ IsStatus status = (status ≤ 3) ⊎ (status ≡ 63)
 abbrev pub AreToldApart :
     Opening → Option ImageFormat → Bool → (List ℕ → List ℕ) → List ℕ → List ℕ → Bool → Type 0
 AreToldApart how other same_size files first second true =
-    AreAlike how.accepted how.other_files how.format other same_size files first second
+    AreAlike how other same_size files first second
 AreToldApart how other same_size files first second false =
-    AreUnlike how.accepted how.other_files how.format other same_size files first second
+    AreUnlike how other same_size files first second
 
 -- what the answer to a question says of files, where it is told what they have
 abbrev pub IsAnswered : Question → Option (List ℕ → List ℕ) → Outcome → Type 0
@@ -69,14 +70,16 @@ IsAnswered (Q.Help kind) contents outcome = outcome ≡ Fine
 IsAnswered Q.Version contents outcome = outcome ≡ Fine
 IsAnswered (Q.Info c) contents outcome = (outcome ≡ Fine) × IfSome contents
     (λ files. IsDescribed (how_by c.format c.opening) c.file.now (files c.file.now))
-IsAnswered (Q.Map c) contents outcome = outcome ≡ Fine
+IsAnswered (Q.Map c) contents outcome = (outcome ≡ Fine) × IfSome contents
+    (λ files. IsImage (how_by c.format c.opening) files c.file.now)
 IsAnswered (Q.Check c) contents outcome =
     (verdict : Option Verdict) × (outcome ≡ Checked verdict) × IfSome contents
     (λ files. IsChecked (how_by c.format c.opening) files c.file.now verdict)
 IsAnswered (Q.Vet c) contents outcome =
     (safe : Bool) × (outcome ≡ Vetted safe) × IfSome contents
     (λ files. Decides safe (IsVetted (how_by c.format c.opening) c.file.now (files c.file.now)))
-IsAnswered (Q.Measure c) contents outcome = outcome ≡ Fine
+IsAnswered (Q.Measure c) contents outcome =
+    (outcome ≡ Fine) × IfSome contents (IsMeasured c)
 IsAnswered (Q.Compare c) contents outcome =
     (alike : Bool) × (outcome ≡ outcome_when alike) × IfSome contents
     (λ files. AreToldApart (how_by c.first_format c.opening)
@@ -123,12 +126,10 @@ abbrev pub IsConvertedTo :
     NewFormat → Opening → Convert → Option (List ℕ → List ℕ) → Option (List ℕ → List ℕ)
     → Option Around → Option Around → Type 0
 IsConvertedTo New.Raw how c files new around after =
-    IsConverted how.accepted how.other_files how.format c.force files new around after c.source.now
-    c.target.now
+    IsConverted how c.force files new around after c.source.now c.target.now
 IsConvertedTo (New.Qcow2 settings) how c files new around after =
-    IsNewlyMade
-    (IsQcow2Copy how.accepted how.other_files how.format c.source.now (format_by settings))
-    c.force files new around after c.target.now
+    IsNewlyMade (IsQcow2Copy how c.source.now (format_by settings)) c.force files new around after
+    c.target.now
 
 abbrev pub IsNewlyConverted :
     Opening → Convert → Option (List ℕ → List ℕ) → Option (List ℕ → List ℕ)
@@ -152,10 +153,8 @@ IsCreated c old new before after status =
 abbrev pub IsConvertedInto :
     Opening → Convert → Option (List ℕ → List ℕ) → Option (List ℕ → List ℕ) → ℕ → Type 0
 IsConvertedInto how c old new status =
-    ((status ≡ 0) × IsConvertedOver how.accepted how.other_files how.format old new c.source.now
-    c.target.now)
-    ⊎ ((status ≡ 1) × IsPartlyConvertedOver how.accepted how.other_files how.format old new
-    c.source.now c.target.now)
+    ((status ≡ 0) × IsConvertedOver how old new c.source.now c.target.now)
+    ⊎ ((status ≡ 1) × IsPartlyConvertedOver how old new c.source.now c.target.now)
 
 -- the one or the other, by whether the file has to be there
 abbrev pub IsConvertedBy :

@@ -6,9 +6,8 @@ use Rattle.std.specs.Prelude.{IfSome}
 use Rattle.imago_drivers.specs.Place.{Place, Value, Byte}
 use Rattle.imago_access.specs.Disk.{values_from}
 use Rattle.imago_copy.specs.Differences.{IsFirstDifferentValue}
-use Rattle.imago_vmdk.specs.declared.line.Accepted.{Accepted}
 use Rattle.imago_images.specs.declared.format.ImageFormat.{ImageFormat}
-use Rattle.imago_images.specs.declared.opening.OtherFiles.{OtherFiles}
+use Rattle.imago_images.specs.declared.opening.Opening.{Opening}
 use Rattle.imago_images.specs.declared.format.ImageFormat.TheVariants.{Raw, Vmdk, Qcow2}
 use Rattle.imago_images.specs.Formats.{IsFormatBy, format_by_name}
 use Rattle.imago_images.specs.Gate.{folder_path}
@@ -18,81 +17,79 @@ use Rattle.imago_img_parts.specs.Files.{Around, with_file, IsMade, IsOverwritten
 
 -- The image of a path shows these values, one for each offset of its disk: it is opened as the
 -- format that was said, or else as the one that its file is taken to have, and its layers are what
--- its file and the files that this one leads to have.
-abbrev pub ShowsDisk :
-    Accepted → OtherFiles → Option ImageFormat → (List ℕ → List ℕ) → List ℕ → List Value → Type 0
-ShowsDisk accepted others said files path disk =
-    (format : ImageFormat) × (layers : List (ℕ → Place)) × IsFormatBy said path (files path) format
-    × AreLayers accepted others files path format layers
-    × (disk ≡ values_from (layers_value layers) 0 (size_by accepted format (files path)))
+-- its file and the files that this one leads to have, each of which is within the limits.
+abbrev pub ShowsDisk : Opening → (List ℕ → List ℕ) → List ℕ → List Value → Type 0
+ShowsDisk how files path disk =
+    (format : ImageFormat) × (layers : List (ℕ → Place))
+    × IsFormatBy how.format path (files path) format × AreLayers how files path format layers
+    × (disk ≡ values_from (layers_value layers) 0 (size_by how.accepted format (files path)))
 
 -- the same, where all values are bytes
-abbrev pub HasDisk :
-    Accepted → OtherFiles → Option ImageFormat → (List ℕ → List ℕ) → List ℕ → List ℕ → Type 0
-HasDisk accepted others said files path disk =
-    ShowsDisk accepted others said files path (map Byte disk)
+abbrev pub HasDisk : Opening → (List ℕ → List ℕ) → List ℕ → List ℕ → Type 0
+HasDisk how files path disk = ShowsDisk how files path (map Byte disk)
 
--- the size of the disk that the image of a path has, in bytes
-abbrev pub HasSize : Accepted → Option ImageFormat → (List ℕ → List ℕ) → List ℕ → ℕ → Type 0
-HasSize accepted said files path size =
-    (format : ImageFormat) × IsFormatBy said path (files path) format
-    × (size ≡ size_by accepted format (files path))
+-- The file of a path is an image: it is opened as above, and its layers are what its files have.
+abbrev pub IsImage : Opening → (List ℕ → List ℕ) → List ℕ → Type 0
+IsImage how files path = (format : ImageFormat) × (layers : List (ℕ → Place))
+    × IsFormatBy how.format path (files path) format × AreLayers how files path format layers
+
+-- The size of the disk that the image of a path has, in bytes. The image is opened as above, and its
+-- layers are what its files have.
+abbrev pub HasSize : Opening → (List ℕ → List ℕ) → List ℕ → ℕ → Type 0
+HasSize how files path size =
+    (format : ImageFormat) × (layers : List (ℕ → Place))
+    × IsFormatBy how.format path (files path) format × AreLayers how files path format layers
+    × (size ≡ size_by how.accepted format (files path))
 
 -- the disk of the image of a path was put behind what was there before, where both are told
 abbrev pub IsDiskAppended :
-    Accepted → OtherFiles → Option ImageFormat → Option (List ℕ → List ℕ) → List ℕ → Option (List ℕ)
-    → Option (List ℕ) → Type 0
-IsDiskAppended accepted others said None path old new = Unit {0}
-IsDiskAppended accepted others said (Some files) path None new = Unit {0}
-IsDiskAppended accepted others said (Some files) path (Some old) new =
-    (disk : List ℕ) × HasDisk accepted others said files path disk × (new ≡ Some (old ++ disk))
+    Opening → Option (List ℕ → List ℕ) → List ℕ → Option (List ℕ) → Option (List ℕ) → Type 0
+IsDiskAppended how None path old new = Unit {0}
+IsDiskAppended how (Some files) path None new = Unit {0}
+IsDiskAppended how (Some files) path (Some old) new =
+    (disk : List ℕ) × HasDisk how files path disk × (new ≡ Some (old ++ disk))
 
 -- the first bytes that the image of a path shows; or none, where it can't be read there
-abbrev pub IsBegunDisk :
-    Accepted → OtherFiles → Option ImageFormat → (List ℕ → List ℕ) → List ℕ → List ℕ → Type 0
-IsBegunDisk accepted others said files path bytes = (bytes ≡ [])
-    ⊎ ((disk : List Value) × ShowsDisk accepted others said files path disk
+abbrev pub IsBegunDisk : Opening → (List ℕ → List ℕ) → List ℕ → List ℕ → Type 0
+IsBegunDisk how files path bytes = (bytes ≡ [])
+    ⊎ ((disk : List Value) × ShowsDisk how files path disk
     × (map Byte bytes ≡ take (length bytes) disk))
 
 -- such bytes were put behind what was there before, where both are told
 abbrev pub IsDiskPartlyAppended :
-    Accepted → OtherFiles → Option ImageFormat → Option (List ℕ → List ℕ) → List ℕ → Option (List ℕ)
-    → Option (List ℕ) → Type 0
-IsDiskPartlyAppended accepted others said None path old new = Unit {0}
-IsDiskPartlyAppended accepted others said (Some files) path None new = Unit {0}
-IsDiskPartlyAppended accepted others said (Some files) path (Some old) new =
-    (bytes : List ℕ) × IsBegunDisk accepted others said files path bytes
-    × (new ≡ Some (old ++ bytes))
+    Opening → Option (List ℕ → List ℕ) → List ℕ → Option (List ℕ) → Option (List ℕ) → Type 0
+IsDiskPartlyAppended how None path old new = Unit {0}
+IsDiskPartlyAppended how (Some files) path None new = Unit {0}
+IsDiskPartlyAppended how (Some files) path (Some old) new =
+    (bytes : List ℕ) × IsBegunDisk how files path bytes × (new ≡ Some (old ++ bytes))
 
 -- The disk that the image of one path had was put over the file of another path, which has at least
 -- as many bytes: what it has behind them, and all other files, are as they were, where that is
 -- told.
 abbrev pub IsConvertedOver :
-    Accepted → OtherFiles → Option ImageFormat → Option (List ℕ → List ℕ)
-    → Option (List ℕ → List ℕ) → List ℕ → List ℕ → Type 0
-IsConvertedOver accepted others said None new from to = Unit {0}
-IsConvertedOver accepted others said (Some files) new from to =
-    (disk : List ℕ) × HasDisk accepted others said files from disk
+    Opening → Option (List ℕ → List ℕ) → Option (List ℕ → List ℕ) → List ℕ → List ℕ → Type 0
+IsConvertedOver how None new from to = Unit {0}
+IsConvertedOver how (Some files) new from to =
+    (disk : List ℕ) × HasDisk how files from disk
     × (length disk ≤ length (files to)) × IsOverwritten (Some files) new to (Some disk)
 
 -- the first bytes of that disk were, or none
 abbrev pub IsPartlyConvertedOver :
-    Accepted → OtherFiles → Option ImageFormat → Option (List ℕ → List ℕ)
-    → Option (List ℕ → List ℕ) → List ℕ → List ℕ → Type 0
-IsPartlyConvertedOver accepted others said None new from to = Unit {0}
-IsPartlyConvertedOver accepted others said (Some files) new from to =
-    (bytes : List ℕ) × IsBegunDisk accepted others said files from bytes
+    Opening → Option (List ℕ → List ℕ) → Option (List ℕ → List ℕ) → List ℕ → List ℕ → Type 0
+IsPartlyConvertedOver how None new from to = Unit {0}
+IsPartlyConvertedOver how (Some files) new from to =
+    (bytes : List ℕ) × IsBegunDisk how files from bytes
     × (length bytes ≤ length (files to)) × IsOverwritten (Some files) new to (Some bytes)
 
 -- The file of one path now has the disk that the image of another path had, and all other files
 -- have what they had, where that is told. Nothing else was made, and nothing is left unfinished;
 -- unless it was to be replaced, nothing had that path.
 abbrev pub IsConverted :
-    Accepted → OtherFiles → Option ImageFormat → Bool → Option (List ℕ → List ℕ)
-    → Option (List ℕ → List ℕ) → Option Around → Option Around → List ℕ → List ℕ → Type 0
-IsConverted accepted others said replace None new before after from to = Unit {0}
-IsConverted accepted others said replace (Some files) new before after from to =
-    (disk : List ℕ) × HasDisk accepted others said files from disk
+    Opening → Bool → Option (List ℕ → List ℕ) → Option (List ℕ → List ℕ) → Option Around
+    → Option Around → List ℕ → List ℕ → Type 0
+IsConverted how replace None new before after from to = Unit {0}
+IsConverted how replace (Some files) new before after from to =
+    (disk : List ℕ) × HasDisk how files from disk
     × IsMade (Some files) new to (Some disk) × (after ≡ option_map (with_file to) before)
     × (replace ≡ false → IfSome before (λ a. a.there to ≡ false))
 
@@ -118,6 +115,10 @@ abbrev pub ArePathsOfOne : (List ℕ → List ℕ) → List ℕ → List ℕ →
 ArePathsOfOne files first second format = (first ≡ second)
     ⊎ ((files first ≡ files second) × NamesStandAlike first second format)
 
+-- the same opening, by what is said of the format of another image
+abbrev pub opened_as : Opening → Option ImageFormat → Opening
+opened_as how other = record how { format = other }
+
 -- two disks have to have the same size, and haven't
 abbrev pub is_left_out : Bool → ℕ → ℕ → Bool
 is_left_out same_size size other_size = same_size && not (size == other_size)
@@ -125,30 +126,28 @@ is_left_out same_size size other_size = same_size && not (size == other_size)
 -- What is found of the disks of the images of two paths: their sizes, and where they differ first,
 -- which is left out where they have to have the same size, and haven't.
 abbrev pub AreCompared :
-    Accepted → OtherFiles → Option ImageFormat → Option ImageFormat → Bool → (List ℕ → List ℕ)
-    → List ℕ → List ℕ → ℕ → ℕ → Option ℕ → Type 0
-AreCompared accepted others said other same_size files first second size other_size found =
-    (x : List Value) × (y : List Value) × ShowsDisk accepted others said files first x
-    × ShowsDisk accepted others other files second y
+    Opening → Option ImageFormat → Bool → (List ℕ → List ℕ) → List ℕ → List ℕ → ℕ → ℕ → Option ℕ
+    → Type 0
+AreCompared how other same_size files first second size other_size found =
+    (x : List Value) × (y : List Value) × ShowsDisk how files first x
+    × ShowsDisk (opened_as how other) files second y
     × (size ≡ length x) × (other_size ≡ length y)
     × (is_left_out same_size size other_size ≡ false → IsFirstDifferentValue x y found)
 
 -- The disks of the images of two paths are the same, where all behind the end of the shorter one is
 -- taken as 0; and they have the same size, if they have to.
 abbrev pub AreAlike :
-    Accepted → OtherFiles → Option ImageFormat → Option ImageFormat → Bool → (List ℕ → List ℕ)
-    → List ℕ → List ℕ → Type 0
-AreAlike accepted others said other same_size files first second =
-    (x : List Value) × (y : List Value) × ShowsDisk accepted others said files first x
-    × ShowsDisk accepted others other files second y
+    Opening → Option ImageFormat → Bool → (List ℕ → List ℕ) → List ℕ → List ℕ → Type 0
+AreAlike how other same_size files first second =
+    (x : List Value) × (y : List Value) × ShowsDisk how files first x
+    × ShowsDisk (opened_as how other) files second y
     × (same_size ≡ true → length x ≡ length y) × IsFirstDifferentValue x y None
 
 -- There is an offset at which they differ first; or they have to have the same size, and haven't.
 abbrev pub AreUnlike :
-    Accepted → OtherFiles → Option ImageFormat → Option ImageFormat → Bool → (List ℕ → List ℕ)
-    → List ℕ → List ℕ → Type 0
-AreUnlike accepted others said other same_size files first second =
-    (x : List Value) × (y : List Value) × ShowsDisk accepted others said files first x
-    × ShowsDisk accepted others other files second y
+    Opening → Option ImageFormat → Bool → (List ℕ → List ℕ) → List ℕ → List ℕ → Type 0
+AreUnlike how other same_size files first second =
+    (x : List Value) × (y : List Value) × ShowsDisk how files first x
+    × ShowsDisk (opened_as how other) files second y
     × (((at : ℕ) × IsFirstDifferentValue x y (Some at))
     ⊎ ((same_size ≡ true) × (length x ≢ length y)))

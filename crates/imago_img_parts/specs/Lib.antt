@@ -7,6 +7,7 @@ pub mod Text
 pub mod Checked
 pub mod Extents
 pub mod Openings
+pub mod Measures
 pub mod Resized
 pub mod Reaches
 pub mod Described

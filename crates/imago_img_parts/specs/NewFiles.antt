@@ -14,7 +14,6 @@ use Rattle.imago_words.specs.declared.settings.NewFormat.TheVariants as New
 use Rattle.imago_words.specs.declared.settings.Settings.{Settings}
 use Rattle.imago_words.specs.declared.settings.Version as Said
 use Rattle.imago_words.specs.declared.settings.Version.TheVariants as S
-use Rattle.imago_vmdk.specs.declared.line.Accepted.{Accepted}
 use Rattle.imago_qcow2_new.specs.declared.format.Format.{Format}
 use Rattle.imago_qcow2_new.specs.declared.format.Gaps.TheVariants as G
 use Rattle.imago_qcow2_new.specs.declared.format.Version.{Version}
@@ -23,10 +22,9 @@ use Rattle.imago_qcow2_new.specs.declared.layout.Layout.{Layout}
 use Rattle.imago_qcow2_new.specs.Layout.{IsLayoutOf, StoresNothing, size_of}
 use Rattle.imago_qcow2_new.specs.Names.{HasNames, HasNoNames}
 use Rattle.imago_qcow2_new.specs.Image.{IsNewFile, IsQcow2Of}
-use Rattle.imago_images.specs.declared.format.ImageFormat.{ImageFormat}
-use Rattle.imago_images.specs.declared.opening.OtherFiles.{OtherFiles}
+use Rattle.imago_images.specs.declared.opening.Opening.{Opening}
 use Rattle.imago_file.specs.Names.{path_beside}
-use Rattle.imago_img_parts.specs.Disks.{HasSize, ShowsDisk}
+use Rattle.imago_img_parts.specs.Disks.{HasSize, IsImage, ShowsDisk}
 use Rattle.imago_img_parts.specs.Openings.{how_by}
 use Rattle.imago_img_parts.specs.Files.{Around, with_file, IsMade}
 
@@ -44,18 +42,15 @@ format_by s = record {
 
 -- a new qcow2 file of the disk that the image of a path has, with no layer below
 abbrev pub IsQcow2Copy :
-    Accepted → OtherFiles → Option ImageFormat → List ℕ → Format → (List ℕ → List ℕ) → List ℕ
-    → Type 0
-IsQcow2Copy accepted others said from format files file =
-    (disk : List Value) × ShowsDisk accepted others said files from disk
-    × IsQcow2Of format disk file
+    Opening → List ℕ → Format → (List ℕ → List ℕ) → List ℕ → Type 0
+IsQcow2Copy how from format files file =
+    (disk : List Value) × ShowsDisk how files from disk × IsQcow2Of format disk file
 
 -- the same by a layout
 abbrev pub IsCopyBy :
-    Accepted → OtherFiles → Option ImageFormat → List ℕ → Layout → (List ℕ → List ℕ) → List ℕ
-    → Type 0
-IsCopyBy accepted others said from l files file =
-    (disk : List Value) × ShowsDisk accepted others said files from disk
+    Opening → List ℕ → Layout → (List ℕ → List ℕ) → List ℕ → Type 0
+IsCopyBy how from l files file =
+    (disk : List Value) × ShowsDisk how files from disk
     × (size_of l ≡ next_multiple_of (length disk) 512) × IsNewFile l (value_at disk) file
 
 -- a target that was empty now has a file of that length of which something is so, where that is
@@ -101,8 +96,7 @@ IsEmptyFile (New.Qcow2 s) below size file =
 abbrev pub IsSizeBelow : Create → Option Backing → (List ℕ → List ℕ) → ℕ → Type 0
 IsSizeBelow c None files size = size ≡ 0
 IsSizeBelow c (Some b) files size =
-    HasSize (how_by (Some b.format) c.opening).accepted (how_by (Some b.format) c.opening).format
-    files (path_beside c.target.now b.file.now) size
+    HasSize (how_by (Some b.format) c.opening) files (path_beside c.target.now b.file.now) size
 
 abbrev pub IsSizeBy : Create → Option ℕ → (List ℕ → List ℕ) → ℕ → Type 0
 IsSizeBy c (Some said) files size = size ≡ said
@@ -111,7 +105,17 @@ IsSizeBy c None files size = IsSizeBelow c c.backing files size
 abbrev pub IsSizeOf : Create → (List ℕ → List ℕ) → ℕ → Type 0
 IsSizeOf c files size = IsSizeBy c c.size files size
 
+-- the file that is to be the layer below is an image
+abbrev pub IsAboveImage : Create → Option Backing → (List ℕ → List ℕ) → Type 0
+IsAboveImage c None files = Unit {0}
+IsAboveImage c (Some b) files =
+    IsImage (how_by (Some b.format) c.opening) files (path_beside c.target.now b.file.now)
+
+-- the size that a new image is to have, and what it is above
+abbrev pub IsPlanned : Create → (List ℕ → List ℕ) → ℕ → Type 0
+IsPlanned c files size = IsSizeOf c files size × IsAboveImage c c.backing files
+
 -- the file of a new image, as the command line asks for it
 abbrev pub IsNewImage : Create → (List ℕ → List ℕ) → List ℕ → Type 0
 IsNewImage c files file =
-    (size : ℕ) × IsSizeOf c files size × IsEmptyFile c.format c.backing size file
+    (size : ℕ) × IsPlanned c files size × IsEmptyFile c.format c.backing size file

@@ -6,7 +6,7 @@ ghost use Rattle.imago_access.specs.Disk.{disk};
 ghost use Rattle.imago_copy.specs.Differences.{IsFirstDifferentValue};
 ghost use Rattle.imago_images.specs.Gate.{folder_path};
 ghost use Rattle.imago_img_parts.specs.Disks.{AreCompared, ArePathsOfOne, NamesStandAlike};
-ghost use Rattle.imago_img_parts.specs.Disks.{AreSaidAlike, is_left_out};
+ghost use Rattle.imago_img_parts.specs.Disks.{AreSaidAlike, is_left_out, opened_as};
 
 use crate::failure::Failure;
 use crate::host::Host;
@@ -45,8 +45,8 @@ pub fn compare_images<H: Host>(
     same_size: bool,
 ) -> Result<Comparison, Failure>
     ensures { IfOk result (λ found. IfSome (H.contents host.now)
-        (λ files. AreCompared how.accepted how.other_files how.format other same_size files
-        first.now second.now found.sizes.0 found.sizes.1 found.difference)) }
+        (λ files. AreCompared how other same_size files first.now second.now found.sizes.0
+        found.sizes.1 found.difference)) }
 {
     let alloc = host.alloc();
     let (format, left) = opened(host, first, how)?;
@@ -92,9 +92,7 @@ fn not_compared<H: Host>(
 
 /// How the second image is opened, by how the first one is, and its own format.
 fn said_of_second(how: Opening, other: Option<ImageFormat>) -> Opening
-    ensures accepted { result.accepted ≡ how.accepted }
-    ensures others { result.other_files ≡ how.other_files }
-    ensures format { result.format ≡ other }
+    ensures { result ≡ opened_as how other }
 {
     Opening {
         format: other,

@@ -35,9 +35,8 @@ pub fn convert_image<H: Host, E: Write>(
     warnings: &mut E,
 ) -> Result<(), Failure>
     ensures converted { OnOk result (IsSoOnceCleared making.replace (H.contents host.old)
-        (H.around host.old) to.now (λ files around. IsConverted how.accepted how.other_files
-        how.format making.replace files (H.contents host.new) around (H.around host.new)
-        from.now to.now)) }
+        (H.around host.old) to.now (λ files around. IsConverted how making.replace
+        files (H.contents host.new) around (H.around host.new) from.now to.now)) }
     ensures refused { OnErr result (IsSoOnceCleared making.replace (H.contents host.old)
         (H.around host.old) to.now
         (λ files around. (H.contents host.new ≡ files) × (H.around host.new ≡ around))) }
@@ -96,9 +95,8 @@ fn convert_beside<H: Host, E: Write>(
     show: bool,
     warnings: &mut E,
 ) -> Result<(), Failure>
-    ensures converted { OnOk result (IsConverted how.accepted how.other_files how.format
-        making.replace (H.contents host.old) (H.contents host.new) (H.around host.old)
-        (H.around host.new) from.now to.now) }
+    ensures converted { OnOk result (IsConverted how making.replace (H.contents host.old)
+        (H.contents host.new) (H.around host.old) (H.around host.new) from.now to.now) }
     ensures same { OnErr result (H.contents host.new ≡ H.contents host.old) }
     ensures refused { OnErr result (H.around host.new ≡ H.around host.old) }
 {
@@ -123,7 +121,7 @@ fn tested_size<H: Host, E: Write>(
     warnings: &mut E,
 ) -> Result<u64, Failure>
     ensures { IfOk result (λ size. IfSome (H.contents host.now)
-        (λ files. HasSize how.accepted how.format files from.now size)) }
+        (λ files. HasSize how files from.now size)) }
 {
     let (_, image) = opened(host, from, how)?;
     let (size, short) = readable_size(host.alloc(), from, &image)?;
@@ -155,10 +153,10 @@ pub(crate) fn fill_shown<H: Host, T: Target>(
     show: bool,
 ) -> (T, Result<(), Failure>)
     ensures same { T.made_for result.0 ≡ T.made_for target }
-    ensures filled { OnOk result.1 (IsDiskAppended how.accepted how.other_files how.format
-        (H.contents host.now) from.now (T.contents target) (T.contents result.0)) }
-    ensures refused { OnErr result.1 (IsDiskPartlyAppended how.accepted how.other_files how.format
-        (H.contents host.now) from.now (T.contents target) (T.contents result.0)) }
+    ensures filled { OnOk result.1 (IsDiskAppended how (H.contents host.now) from.now
+        (T.contents target) (T.contents result.0)) }
+    ensures refused { OnErr result.1 (IsDiskPartlyAppended how (H.contents host.now) from.now
+        (T.contents target) (T.contents result.0)) }
 {
     let mut target = Progress::new(target, host, show, size);
     let filled = fill(host, from, to, how, &mut target);
@@ -174,10 +172,10 @@ fn fill<H: Host, T: Target>(
     target: &mut T,
 ) -> Result<(), Failure>
     ensures same { T.made_for target.new ≡ T.made_for target.old }
-    ensures filled { OnOk result (IsDiskAppended how.accepted how.other_files how.format
-        (H.contents host.now) from.now (T.contents target.old) (T.contents target.new)) }
-    ensures refused { OnErr result (IsDiskPartlyAppended how.accepted how.other_files how.format
-        (H.contents host.now) from.now (T.contents target.old) (T.contents target.new)) }
+    ensures filled { OnOk result (IsDiskAppended how (H.contents host.now) from.now
+        (T.contents target.old) (T.contents target.new)) }
+    ensures refused { OnErr result (IsDiskPartlyAppended how (H.contents host.now) from.now
+        (T.contents target.old) (T.contents target.new)) }
 {
     let alloc = host.alloc();
     let (_, image) = opened(host, from, how)?;

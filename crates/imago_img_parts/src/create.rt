@@ -10,7 +10,7 @@ ghost use Rattle.imago_access.specs.Chain.{driver};
 ghost use Rattle.imago_img_parts.specs.Disks.{HasSize};
 ghost use Rattle.imago_img_parts.specs.Files.{IsSoOnceCleared};
 ghost use Rattle.imago_img_parts.specs.NewFiles.{HasNamesBelow, IsEmptyFile, IsFilledWith};
-ghost use Rattle.imago_img_parts.specs.NewFiles.{IsNewImage, IsNewlyMade, IsSizeBelow, IsSizeOf};
+ghost use Rattle.imago_img_parts.specs.NewFiles.{IsNewImage, IsNewlyMade, IsPlanned, IsSizeBelow};
 ghost use Rattle.imago_img_parts.specs.NewFiles.{format_by, format_text};
 
 use crate::convert::{end, has_left_over, remove_left_over, target_fault, test_place};
@@ -261,7 +261,7 @@ fn put_new<T: Target>(
 /// The size of a new image, in bytes, that may be made for its path.
 fn tested_size<H: Host>(host: &H, asked: Create<'_>) -> Result<u64, Failure>
     ensures { IfOk result (λ size. IfSome (H.contents host.now)
-        (λ files. IsSizeOf asked.entry files size)) }
+        (λ files. IsPlanned asked.entry files size)) }
 {
     let below = size_below(host, asked, asked.backing)?;
     Ok(asked.size.unwrap_or(below))
@@ -289,7 +289,7 @@ fn size_below<H: Host>(
 /// The size of the disk of the image of that path, in bytes, above which a new one may be made.
 fn size_at<H: Host>(host: &H, path: &str, how: Opening, asked: Create<'_>) -> Result<u64, Failure>
     ensures { IfOk result (λ size. IfSome (H.contents host.now)
-        (λ files. HasSize how.accepted how.format files path.now size)) }
+        (λ files. HasSize how files path.now size)) }
 {
     let (_, image) = opened(host, path, how)?;
     let size = size_above(host, &image, asked)?;

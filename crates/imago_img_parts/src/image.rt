@@ -44,7 +44,7 @@ pub fn opened<'a, H: Host>(
         (λ files. IsFormatBy how.format path.now (files path.now) r.0)) }
     ensures image { IfOk result (λ r. IfSome (H.contents host.now)
         (λ files. IsImageIn ⟦<AnyDriver<PathStorage<'a, H>> as FormatDriverInstance>⟧.view
-        how.accepted how.other_files files path.now r.0 r.1)) }
+        how files path.now r.0 r.1)) }
     ensures vetted { how.other_files ≡ Others.None → IfErr result
         (λ failure. IfSome (H.contents host.now) (λ files. IsVetted how path.now (files path.now)
         → IsHostFailure failure)) }

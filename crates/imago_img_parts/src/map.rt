@@ -1,6 +1,7 @@
 // SPDX-License-Identifier: MIT
 //! Where the bytes of an image's disk stand.
-ghost use Rattle.std.specs.Prelude.{◌≡◌, ◌<◌, ◌≤◌, if◌then◌else◌};
+ghost use Rattle.std.specs.Prelude.{◌≡◌, ◌<◌, ◌≤◌, if◌then◌else◌, OnOk, IfSome};
+ghost use Rattle.imago_img_parts.specs.Disks.{IsImage};
 ghost use Rattle.imago_img_parts.specs.declared.lines.LineKind.TheVariants as Kinds;
 
 use crate::failure::Failure;
@@ -46,7 +47,10 @@ pub fn map_image<H: Host, W: Write>(
     how: Opening,
     json: bool,
     output: &mut W,
-) -> Result<(), Failure> {
+) -> Result<(), Failure>
+    ensures { OnOk result (IfSome (H.contents host.now)
+        (λ files. IsImage how files path.now)) }
+{
     let (_, image) = opened(host, path, how)?;
     match print_image(host, &image, json, output) {
         Ok(printed) => printed.map_err(Failure::Output),

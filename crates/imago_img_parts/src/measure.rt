@@ -1,9 +1,12 @@
 // SPDX-License-Identifier: MIT
 //! How long the file of a new image would be.
-ghost use Rattle.std.specs.Prelude.{◌≡◌, ℕ, IfOk};
+ghost use Rattle.std.specs.Prelude.{◌≡◌, ℕ, IfOk, IfSome, OnOk};
 ghost use Rattle.imago_qcow2_new.specs.declared.layout.Layout.{Layout};
 ghost use Rattle.imago_qcow2_new.specs.Layout.{IsLayoutOf, file_length};
+ghost use Rattle.imago_img_parts.specs.Disks.{IsImage};
+ghost use Rattle.imago_img_parts.specs.Measures.{IsMeasured};
 ghost use Rattle.imago_img_parts.specs.NewFiles.{format_by};
+ghost use Rattle.imago_img_parts.specs.Openings.{how_by};
 
 use crate::create::{planned, raw_length};
 use crate::failure::Failure;
@@ -11,10 +14,11 @@ use crate::host::Host;
 use crate::image::{opened, readable_size};
 use crate::new_qcow2::{NewQcow2, layout_for};
 use crate::opening::{how_to_open, new_format};
+use imago_images::opener::FileImage;
 use imago_words::command::{Measure, Measured, Output};
 use imago_words::settings::{NewFormat, Settings};
 use std::alloc::Global;
-use std::io::Write;
+use std::io::{self, Write};
 
 /// The lengths of a new file, in bytes.
 #[derive(Clone, Copy)]
@@ -34,12 +38,16 @@ pub fn measure<H: Host, W: Write>(
     host: &H,
     asked: Measure<'_>,
     output: &mut W,
-) -> Result<(), Failure> {
-    let lengths = match asked.disk {
-        Measured::File(file) => lengths_of_file(host, file, asked)?,
-        Measured::Size(size) => lengths_of_size(host.alloc(), size, asked.target_format)?,
-    };
-    let printed = if asked.output == Output::Json {
+) -> Result<(), Failure>
+    ensures { OnOk result (IfSome (H.contents host.now) (IsMeasured asked.entry)) }
+{
+    let lengths = lengths_asked(host, asked)?;
+    print_lengths(lengths, asked, output).map_err(Failure::Output)
+}
+
+/// Prints lengths as lines, or as a JSON object.
+fn print_lengths<W: Write>(lengths: Lengths, asked: Measure<'_>, output: &mut W) -> io::Result<()> {
+    if asked.output == Output::Json {
         writeln!(
             output,
             "{{\n    \"required\": {},\n    \"fully-allocated\": {}\n}}",
@@ -51,15 +59,37 @@ pub fn measure<H: Host, W: Write>(
             "required size: {}\nfully allocated size: {}",
             lengths.required, lengths.full
         )
-    };
-    printed.map_err(Failure::Output)
+    }
+}
+
+/// The lengths of a new file of what is measured.
+fn lengths_asked<H: Host>(host: &H, asked: Measure<'_>) -> Result<Lengths, Failure>
+    ensures { OnOk result (IfSome (H.contents host.now) (IsMeasured asked.entry)) }
+{
+    match asked.disk {
+        Measured::File(file) => lengths_of_file(host, file, asked),
+        Measured::Size(size) => lengths_of_size(host.alloc(), size, asked.target_format),
+    }
 }
 
 /// The lengths of a new file of the disk of an image.
-fn lengths_of_file<H: Host>(host: &H, file: &str, asked: Measure<'_>) -> Result<Lengths, Failure> {
-    let alloc = host.alloc();
-    let (_, image) = opened(host, file, how_to_open(asked.source_format, asked.opening))?;
-    let (size, _) = readable_size(alloc, file, &image)?;
+fn lengths_of_file<H: Host>(host: &H, file: &str, asked: Measure<'_>) -> Result<Lengths, Failure>
+    ensures { OnOk result (IfSome (H.contents host.now)
+        (λ files. IsImage (how_by asked.entry.source_format asked.entry.opening) files file.now)) }
+{
+    let how = how_to_open(asked.source_format, asked.opening);
+    let (_, image) = opened(host, file, how)?;
+    lengths_of_image(host.alloc(), file, &image, asked)
+}
+
+/// The same, where the image of that path is opened.
+fn lengths_of_image<H: Host>(
+    alloc: Global,
+    file: &str,
+    image: &FileImage<'_, H>,
+    asked: Measure<'_>,
+) -> Result<Lengths, Failure> {
+    let (size, _) = readable_size(alloc, file, image)?;
     let NewFormat::Qcow2(settings) = asked.target_format else {
         return raw_lengths(alloc, file, size);
     };
@@ -67,7 +97,7 @@ fn lengths_of_file<H: Host>(host: &H, file: &str, asked: Measure<'_>) -> Result<
         format: new_format(settings),
         all: settings.preallocated,
     };
-    let layout = layout_for(alloc, &image, file, file, new)?;
+    let layout = layout_for(alloc, image, file, file, new)?;
     Ok(Lengths {
         required: layout.file_length(),
         full: full_length(alloc, file, size, settings)?,

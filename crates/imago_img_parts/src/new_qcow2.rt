@@ -54,8 +54,8 @@ pub fn convert_to_qcow2<H: Host, E: Write>(
 ) -> Result<(), Failure>
     ensures converted { OnOk result (IsSoOnceCleared making.replace (H.contents host.old)
         (H.around host.old) to.now (λ files around. IsNewlyMade
-        (IsQcow2Copy how.accepted how.other_files how.format from.now new.format) making.replace
-        files (H.contents host.new) around (H.around host.new) to.now)) }
+        (IsQcow2Copy how from.now new.format) making.replace files (H.contents host.new) around
+        (H.around host.new) to.now)) }
     ensures refused { OnErr result (IsSoOnceCleared making.replace (H.contents host.old)
         (H.around host.old) to.now
         (λ files around. (H.contents host.new ≡ files) × (H.around host.new ≡ around))) }
@@ -76,10 +76,9 @@ fn convert_beside<H: Host, E: Write>(
     show: bool,
     warnings: &mut E,
 ) -> Result<(), Failure>
-    ensures converted { OnOk result (IsNewlyMade
-        (IsQcow2Copy how.accepted how.other_files how.format from.now new.format) making.replace
-        (H.contents host.old) (H.contents host.new) (H.around host.old) (H.around host.new)
-        to.now) }
+    ensures converted { OnOk result (IsNewlyMade (IsQcow2Copy how from.now new.format)
+        making.replace (H.contents host.old) (H.contents host.new) (H.around host.old)
+        (H.around host.new) to.now) }
     ensures same { OnErr result (H.contents host.new ≡ H.contents host.old) }
     ensures refused { OnErr result (H.around host.new ≡ H.around host.old) }
 {
@@ -163,8 +162,7 @@ fn write_shown<H: Host, T: Target>(
 ) -> (T, Result<(), Failure>)
     ensures same { T.made_for result.0 ≡ T.made_for target }
     ensures written { IfSome (T.contents target) (λ there. there ≡ []) → OnOk result.1
-        (IfSome (H.contents host.now) (λ files. IsFilledWith
-        (IsCopyBy how.accepted how.other_files how.format from.now layout.now files)
+        (IfSome (H.contents host.now) (λ files. IsFilledWith (IsCopyBy how from.now layout.now files)
         (file_length layout.now) (T.contents target) (T.contents result.0))) }
 {
     let mut target = Progress::new(target, host, show, layout.file_length());
@@ -183,8 +181,7 @@ fn write<H: Host, T: Target>(
 ) -> Result<(), Failure>
     ensures same { T.made_for target.new ≡ T.made_for target.old }
     ensures written { IfSome (T.contents target.old) (λ there. there ≡ []) → OnOk result
-        (IfSome (H.contents host.now) (λ files. IsFilledWith
-        (IsCopyBy how.accepted how.other_files how.format from.now layout.now files)
+        (IfSome (H.contents host.now) (λ files. IsFilledWith (IsCopyBy how from.now layout.now files)
         (file_length layout.now) (T.contents target.old) (T.contents target.new))) }
 {
     let alloc = host.alloc();

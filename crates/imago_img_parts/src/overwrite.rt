@@ -27,10 +27,10 @@ pub fn overwrite<H: Host, E: Write>(
     show: bool,
     warnings: &mut E,
 ) -> Result<(), Failure>
-    ensures written { OnOk result (IsConvertedOver how.accepted how.other_files how.format
-        (H.contents host.old) (H.contents host.new) from.now to.now) }
-    ensures refused { OnErr result (IsPartlyConvertedOver how.accepted how.other_files how.format
-        (H.contents host.old) (H.contents host.new) from.now to.now) }
+    ensures written { OnOk result (IsConvertedOver how (H.contents host.old)
+        (H.contents host.new) from.now to.now) }
+    ensures refused { OnErr result (IsPartlyConvertedOver how (H.contents host.old)
+        (H.contents host.new) from.now to.now) }
     ensures around { H.around host.new ≡ H.around host.old }
 {
     let size = fitting_size(&*host, from, to, how, warnings)?;
@@ -54,7 +54,7 @@ fn fitting_size<H: Host, E: Write>(
     warnings: &mut E,
 ) -> Result<u64, Failure>
     ensures size { IfOk result (λ size. IfSome (H.contents host.now)
-        (λ files. HasSize how.accepted how.format files from.now size)) }
+        (λ files. HasSize how files from.now size)) }
     ensures fits { IfOk result (λ size. IfSome (H.contents host.now)
         (λ files. size ≤ length (files to.now))) }
 {

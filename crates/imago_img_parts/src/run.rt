@@ -16,7 +16,8 @@ ghost use Rattle.imago_img_parts.specs.Commands.{outcome_status, outcome_when, r
 ghost use Rattle.imago_img_parts.specs.Commands.{check_status, untold, vet_status};
 ghost use Rattle.imago_img_parts.specs.Vetted.{IsVetted};
 ghost use Rattle.imago_img_parts.specs.Described.{IsDescribed};
-ghost use Rattle.imago_img_parts.specs.Disks.{is_left_out};
+ghost use Rattle.imago_img_parts.specs.Disks.{is_left_out, IsImage};
+ghost use Rattle.imago_img_parts.specs.Measures.{IsMeasured};
 ghost use Rattle.imago_img_parts.specs.NewFiles.{format_by};
 ghost use Rattle.imago_img_parts.specs.Openings.{how_by, image_format};
 ghost use Rattle.imago_img_parts.specs.Reaches.{reach_by};
@@ -41,7 +42,7 @@ use imago_images::confined::Confined;
 use imago_images::opening::Opening;
 use imago_qcow2_check::fault::Verdict;
 use imago_words::command::{
-    Check, Command, Compare, Convert, Create, Info, Map, Output, Resize, Vet,
+    Check, Command, Compare, Convert, Create, Info, Map, Measure, Output, Resize, Vet,
 };
 use imago_words::help::{Help, VERSION};
 use imago_words::kind::Kind;
@@ -393,15 +394,20 @@ fn answer<H: Host, W: Write, E: Write>(
         Question::Check(asked) => look_for_faults(host, asked, output, errors),
         Question::Vet(asked) => look_at_stranger(host, asked, output),
         Question::Compare(asked) => compare(host, asked, output),
-        Question::Measure(asked) => measured(measure(host, asked, output)),
+        Question::Measure(asked) => measured(host, asked, output),
     }
 }
 
-/// What comes of a measurement.
-fn measured(answer: Result<(), Failure>) -> Result<Outcome, Failure>
-    ensures { IfOk result (λ outcome. outcome ≡ Fine) }
+/// Tells how long the file of a new image is.
+fn measured<H: Host, W: Write>(
+    host: &H,
+    asked: Measure<'_>,
+    output: &mut W,
+) -> Result<Outcome, Failure>
+    ensures { IfOk result (λ outcome. (outcome ≡ Fine)
+        × IfSome (H.contents host.now) (IsMeasured asked.entry)) }
 {
-    answer?;
+    measure(host, asked, output)?;
     Ok(Outcome::Fine)
 }
 
@@ -444,7 +450,9 @@ fn describe<H: Host, W: Write, E: Write>(
 
 /// Tells where the bytes of an image's disk stand.
 fn list<H: Host, W: Write>(host: &H, asked: Map<'_>, output: &mut W) -> Result<Outcome, Failure>
-    ensures { IfOk result (λ outcome. outcome ≡ Fine) }
+    ensures { IfOk result (λ outcome. (outcome ≡ Fine)
+        × IfSome (H.contents host.now) (λ files.
+        IsImage (how_by asked.entry.format asked.entry.opening) files asked.entry.file.now)) }
 {
     let how = how_to_open(asked.format, asked.opening);
     map_image(host, asked.file, how, asked.output == Output::Json, output)?;

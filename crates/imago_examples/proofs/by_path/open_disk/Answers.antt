@@ -4,9 +4,8 @@ use Rattle.imago.specs.View.{View}
 use Rattle.imago.specs.FormatAccess.{FormatAccess}
 use Rattle.imago.specs.ImageFormat.{ImageFormat}
 use Rattle.imago.specs.ImageFormats.{IsFormatBy}
-use Rattle.imago.specs.OtherFiles.TheVariants as Others
 use Rattle.imago.specs.FileImages.{IsImageIn}
-use Rattle.imago_examples.specs.ByPath.{IsImageAt, everything}
+use Rattle.imago_examples.specs.ByPath.{IsImageAt, as_found}
 use Rattle.imago_examples.proofs.by_path.open_disk.Goals as goal
 
 -- the image of a path and its format
@@ -14,7 +13,7 @@ image_at :
     {D St : Type 0} (view : D → View St) (known : Option (List ℕ → List ℕ)) (path : List ℕ)
     (format : ImageFormat) (x : FormatAccess D)
     → IfSome known (λ files. IsFormatBy None path (files path) format)
-    → IfSome known (λ files. IsImageIn view everything Others.InFolder files path format x)
+    → IfSome known (λ files. IsImageIn view as_found files path format x)
     → IfSome known (λ files. IsImageAt view files path x)
 image_at view None path format x by is = tt
 image_at view (Some files) path format x by is = (format, by, is)

@@ -3,7 +3,7 @@ use Rattle.imago_any_driver.specs.AnyDriver.{view_over}
 use Rattle.imago_images.proofs.PathSteps.{features_of, bytes_of}
 use Rattle.imago_file.specs.StorageParts.{faults_of}
 use Rattle.imago_images.proofs.PartSteps.{driver_in, below_in, path_in, format_in}
-use Rattle.imago_images.proofs.LayerSteps.{raw_told, qcow2_told, vmdk_told, qcow2_said, alone_said}
+use Rattle.imago_images.proofs.LayerSteps.{raw_told, qcow2_told, vmdk_told, qcow2_said, alone_said, few_told, few_raw, few_vmdk}
 use Rattle.imago_images.proofs.FaultSteps.{vmdk_layer_out}
 use Rattle.imago_images.specs.declared.format.ImageFormat.TheVariants as Of
 use Rattle.imago_images.proofs.NamedSteps.{raw_named, qcow2_named, named_as}
@@ -108,3 +108,21 @@ returns-in-Vmdk-clause-files g c =
     (λ l. (view_over (features_of contents opened) faults_of (bytes_of contents opened) (driver_in l)).stores)
     c.args.how.accepted (contents c.args.host.now) c.args.path.now c.args.format Of.Vmdk c.in-Vmdk.is
     c.vmdk_layer.ensures.files
+
+pub returns-in-Raw-clause-few : goal.returns-in-Raw-clause-few
+returns-in-Raw-clause-few g c =
+    few_raw (g.H.Files.contents c.args.host.now) c.args.path.now c.args.how.tables c.args.format c.raw_layer.result
+    c.in-Raw.is
+
+pub returns-in-Qcow2-clause-few : goal.returns-in-Qcow2-clause-few
+returns-in-Qcow2-clause-few g c =
+    let contents = g.H.Files.contents in
+    let opened = g.H.File.HostFile.contents in
+    few_told (features_of contents opened) (bytes_of contents opened) (contents c.args.host.now) c.args.path.now
+    c.args.file c.args.how.tables c.args.format c.qcow2_layer.result c.in-Qcow2.is c.requires.told
+    c.qcow2_layer.ensures.few
+
+pub returns-in-Vmdk-clause-few : goal.returns-in-Vmdk-clause-few
+returns-in-Vmdk-clause-few g c =
+    few_vmdk (g.H.Files.contents c.args.host.now) c.args.path.now c.args.how.tables c.args.format c.vmdk_layer.result
+    c.in-Vmdk.is

@@ -1,6 +1,6 @@
 -- SPDX-License-Identifier: MIT
-use Rattle.std.proofs.Common.{Some}
-use Rattle.imago_qcow2.specs.Limit.{TablesNeedMore}
+use Rattle.std.proofs.Common.{ℕ, List, Some, subst}
+use Rattle.imago_qcow2.specs.Limit.{HasTablesWithin, TablesNeedMore}
 use Rattle.imago_qcow2.specs.Opening.{IsRefusedOpening}
 use Rattle.imago_images.proofs.RefusalSteps.{too_large, qcow2_out, driver_fault}
 use Rattle.imago_images.proofs.layer.open_qcow2_within.Goals as goal
@@ -20,3 +20,7 @@ returns-in-Err-Driver-clause-refused g c =
     (TablesNeedMore (g.S.Storage.features c.args.file) (g.S.Storage.bytes c.args.file) (Some c.args.most_tables))
     c.in-Err-Driver.field-0 c.in-Err-Driver.cause c.in-Err-Driver.field-0-is c.in-Err-Driver.ensures.refused)
     (c.not_opened.ensures.of_bytes (Some c.args.most_tables))
+
+pub returns-in-Ok-clause-few : goal.returns-in-Ok-clause-few
+returns-in-Ok-clause-few g c = λ bytes told.
+    subst (λ (b : List ℕ). HasTablesWithin (Some c.args.most_tables) b) told.1 (c.in-Ok.ensures.told told.0)

@@ -1,5 +1,5 @@
 -- SPDX-License-Identifier: MIT
-use Rattle.std.proofs.Common.{◌≡◌, ◌∙◌, ◌-◌, ◌+◌, ◌≤◌, arith, ap, sym, length, Err, option_map, subst, IfSome, Option, List, ℕ}
+use Rattle.std.proofs.Common.{rules, ◌≡◌, ◌∙◌, ◌-◌, ◌+◌, ◌≤◌, arith, ap, sym, length, Err, option_map, subst, IfSome, Option, List, ℕ}
 use Rattle.std.proofs.lemmas.Result.{err_from_is_err_and}
 use Rattle.std.specs.String.{string_bytes}
 use Rattle.imago_any_driver.specs.AnyDriver.{view_over}
@@ -10,12 +10,13 @@ use Rattle.imago_images.specs.Layers.{tables_in, AreWithin}
 use Rattle.imago_images.proofs.PathSteps.{features_of, bytes_of}
 use Rattle.imago_file.specs.StorageParts.{faults_of}
 use Rattle.imago_images.proofs.PartSteps.{path_in, format_in}
-use Rattle.imago_images.proofs.ChainSteps.{alone_image, over_image, too_deep_out, next_out, below_out, last_ends, next_ends, kept_told}
+use Rattle.imago_images.proofs.ChainSteps.{alone_image, over_image, limits_told, too_deep_out, next_out, below_out, last_ends, next_ends, kept_told}
 use Rattle.imago_images.proofs.ImageSteps.{refused_with, chain_memory}
 use Rattle.imago_images.specs.Way.{entered}
 use Rattle.imago_images.specs.Chains.{IsChainRefused, IsEndingWay}
 use Rattle.imago_images.proofs.NamedSteps.{alone_files, over_files}
 use Rattle.imago_images.specs.ImageFiles.{HasFiles}
+use Rattle.imago_images.specs.Longest.{IsNoLonger, HasShortL1}
 use Rattle.imago_images.proofs.opener.+open_chain.Goals as goal
 
 pub returns-in_default-clause-image : goal.returns-in_default-clause-image
@@ -28,9 +29,12 @@ returns-in_default-clause-image g t c =
     (view_over (features_of contents opened) faults_of (bytes_of contents opened))
     c.args.how.accepted c.args.how.other_files files c.args.path.now c.args.format layer.driver
     (option_map path_in b)) in
+    let longest : IfSome known (λ files. IsNoLonger c.args.how.longest c.args.how.accepted c.args.format (files c.args.path.now)) = search rules in
+    let l1 : IfSome known (λ files. HasShortL1 c.args.format (files c.args.path.now)) = search rules in
     alone_image (view_over (features_of contents opened) faults_of (bytes_of contents opened))
-    c.args.how.accepted c.args.how.other_files known c.args.path.now c.args.format layer.driver
+    c.args.how known c.args.path.now c.args.format layer.driver
     c.alone.result c.alone.ensures.shows (subst says c.in_default.is c.in_ok-driver.ensures.layer)
+    (limits_told known c.args.how c.args.path.now c.args.format longest l1 c.in_ok-driver.ensures.few)
 
 pub returns-clause-image : goal.returns-clause-image
 returns-clause-image g t c =
@@ -43,14 +47,17 @@ returns-clause-image g t c =
     (view_over (features_of contents opened) faults_of (bytes_of contents opened))
     c.args.how.accepted c.args.how.other_files files c.args.path.now c.args.format layer.driver
     (option_map path_in b)) in
+    let longest : IfSome known (λ files. IsNoLonger c.args.how.longest c.args.how.accepted c.args.format (files c.args.path.now)) = search rules in
+    let l1 : IfSome known (λ files. HasShortL1 c.args.format (files c.args.path.now)) = search rules in
     let shows : List ℕ → Type 0 = λ p. IfSome known (λ files. IsImageIn
     (view_over (features_of contents opened) faults_of (bytes_of contents opened))
-    c.args.how.accepted c.args.how.other_files files p c.in_ok-file.format c.in_ok-below.below) in
+    c.args.how files p c.in_ok-file.format c.in_ok-below.below) in
     over_image (view_over (features_of contents opened) faults_of (bytes_of contents opened))
-    c.args.how.accepted c.args.how.other_files known c.args.path.now (string_bytes next.path)
+    c.args.how known c.args.path.now (string_bytes next.path)
     c.args.format c.in_ok-file.format layer.driver c.in_ok-over.field-0 c.in_ok-below.below next.format
     c.in_ok-over.ensures.shows
     (subst says c.in-Some.is c.in_ok-driver.ensures.layer)
+    (limits_told known c.args.how c.args.path.now c.args.format longest l1 c.in_ok-driver.ensures.few)
     (told_format known c.args.path.now Below format_in layer.below next c.in-Some.is c.in_ok-driver.ensures.format)
     c.in_ok-file.ensures.format
     c.in_ok-file.ensures.through
@@ -157,6 +164,9 @@ returns-clause-end g t c =
     let now = entered c.next_file.new.way in
     let less : ℕ = c.args.most - 1 in
     let least : c.args.most - 1 + 1 ≤ c.args.most = omega arith in
+    let shows : List ℕ → Type 0 = λ p. IfSome known (λ files. IsImageIn
+    (view_over (features_of contents opened) faults_of (bytes_of contents opened))
+    c.args.how files p c.in_ok-file.format c.in_ok-below.below) in
     let ends : List ℕ → Type 0 = λ q. IfSome known (λ files. IsEndingWay files (g.H.Files.statuses host)
     (g.H.Files.real_paths host) c.args.how now q c.in_ok-file.format less) in
     next_ends (view_over (features_of contents opened) faults_of (bytes_of contents opened))
@@ -166,8 +176,10 @@ returns-clause-end g t c =
     anew.0 now less c.args.most (subst says c.in-Some.is c.in_ok-driver.ensures.layer)
     (told_format known c.args.path.now Below format_in layer.below next c.in-Some.is c.in_ok-driver.ensures.format)
     c.in_ok-file.ensures.format
-    (kept_told known (g.H.Files.real_paths host) c.args.how c.args.path.now (string_bytes next.path) c.in_ok-file.format
-    c.in_ok-file.ensures.through c.in_ok-file.ensures.inside c.in_ok-file.ensures.longest c.in_ok-file.ensures.l1) anew.1 anew.2 anew.3 least
+    (kept_told (view_over (features_of contents opened) faults_of (bytes_of contents opened)) c.args.how known
+    (g.H.Files.real_paths host) c.args.path.now (string_bytes next.path) c.in_ok-file.format c.in_ok-below.below
+    c.in_ok-file.ensures.through c.in_ok-file.ensures.inside
+    (subst shows c.deref.ensures c.in_ok-below.ensures.image)) anew.1 anew.2 anew.3 least
     (subst ends c.deref.ensures c.in_ok-below.ensures.end)
 
 pub returns-in_err-over-clause-refused : goal.returns-in_err-over-clause-refused

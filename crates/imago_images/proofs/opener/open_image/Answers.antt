@@ -31,13 +31,13 @@ pub returns-clause-end : goal.returns-clause-end
 returns-clause-end g c =
     let host = c.args.host.now in
     let first = c.in_ok-file.ensures.entered in
-    has_end (g.H.Files.contents host) (g.H.Files.statuses host) (g.H.Files.real_paths host) c.args.how
-    c.args.path.now c.in_ok-file.format first.0 (entered c.first_file.new.way) first.1 first.2
-    c.in_ok-file.ensures.longest c.in_ok-file.ensures.l1 c.in_ok-image.ensures.end
+    has_end _ c.in_ok-image.image (g.H.Files.contents host) (g.H.Files.statuses host) (g.H.Files.real_paths host)
+    c.args.how c.args.path.now c.in_ok-file.format first.0 (entered c.first_file.new.way) first.1 first.2
+    c.in_ok-image.ensures.image c.in_ok-image.ensures.end
 
 pub returns-clause-alone : goal.returns-clause-alone
 returns-clause-alone g c = λ none.
-    image_alone_told _ c.args.how.accepted c.args.how.other_files (g.H.Files.contents c.args.host.now)
+    image_alone_told _ c.args.how (g.H.Files.contents c.args.host.now)
     c.args.path.now c.in_ok-file.format c.in_ok-image.image none c.in_ok-image.ensures.image
 
 pub returns-in_err-refuse_size-clause-refused : goal.returns-in_err-refuse_size-clause-refused

@@ -9,10 +9,8 @@ pub returns-in-Ok : goal.returns-in-Ok
 returns-in-Ok g c =
     let contents = g.H.Files.contents in
     let opened = g.H.File.HostFile.contents in
-    compared_disks (view_over (features_of contents opened) faults_of (bytes_of contents opened)) c.args.how.accepted
-    c.args.how.other_files c.args.how.format c.args.other c.args.same_size c.said_of_second.result.accepted
-    c.said_of_second.result.other_files c.said_of_second.result.format c.said_of_second.ensures.accepted
-    c.said_of_second.ensures.others c.said_of_second.ensures.format (contents c.args.host.now) c.args.first.now
+    compared_disks (view_over (features_of contents opened) faults_of (bytes_of contents opened)) c.args.how
+    c.args.other c.args.same_size c.said_of_second.result c.said_of_second.ensures (contents c.args.host.now) c.args.first.now
     c.args.second.now c.in_ok-format.format c.in_ok-right.field-0-0 c.in_ok-format.left c.in_ok-right.right
     c.in_ok-size.size c.in_ok-other_size.other_size c.leaves_out.result
     c.in-Ok.difference c.in_ok-size.ensures c.in_ok-other_size.ensures c.leaves_out.ensures
@@ -23,8 +21,7 @@ pub returns-then-are_paths_of_one : goal.returns-then-are_paths_of_one
 returns-then-are_paths_of_one g c =
     let contents = g.H.Files.contents in
     let opened = g.H.File.HostFile.contents in
-    compared_same (view_over (features_of contents opened) faults_of (bytes_of contents opened)) c.args.how.accepted
-    c.args.how.other_files c.args.how.format c.args.other c.args.same_size (contents c.args.host.now) c.args.first.now
+    compared_same (view_over (features_of contents opened) faults_of (bytes_of contents opened)) c.args.how c.args.other c.args.same_size (contents c.args.host.now) c.args.first.now
     c.args.second.now c.in_ok-format.format c.in_ok-format.left c.in_ok-size.size c.in_ok-size.ensures
     (c.are_said_alike.ensures c.if-are_said_alike.true)
     (c.are_paths_of_one.ensures c.if-are_paths_of_one.true)

@@ -9,7 +9,7 @@ end-requires g c =
     let full = c.fill_shown-target.result.0 in
     let created = c.in-Ok.ensures in
     record {
-      whole = whole_file c.args.how.accepted c.args.how.other_files c.args.how.format (contents c.args.host.now)
+      whole = whole_file c.args.how (contents c.args.host.now)
           (contents c.create.new.self) c.args.from.now c.args.to.now c.in_ok-size.size (g.H.Target.Target.made_for target)
           (g.H.Target.Target.made_for full) (g.H.Target.Target.contents target) (g.H.Target.Target.contents full)
           c.fill_shown-target.result.1 created.same c.fill_shown-target.ensures.same c.in_ok-size.ensures created.empty
@@ -23,7 +23,7 @@ returns-in-Ok-clause-converted g c =
     let target = c.in-Ok.target in
     let full = c.fill_shown-target.result.0 in
     let created = c.in-Ok.ensures in
-    converted_file c.args.how.accepted c.args.how.other_files c.args.how.format (contents c.args.host.now)
+    converted_file c.args.how (contents c.args.host.now)
     (contents c.create.new.self) c.args.from.now c.args.to.now c.in_ok-size.size (g.H.Target.Target.made_for target)
     (g.H.Target.Target.made_for full) (g.H.Target.Target.contents target) (g.H.Target.Target.contents full)
     c.fill_shown-target.result.1 c.args.making.replace c.end.result (contents c.end.new.host) (around c.args.host.now)

@@ -10,7 +10,7 @@ returns-clause-converted g c =
     let how = c.args.how in
     ok_then (contents c.args.host.now) (around c.args.host.now) c.args.to.now c.convert_beside.result
     c.args.making.replace
-    (λ files left. IsConverted how.accepted how.other_files how.format c.args.making.replace files
+    (λ files left. IsConverted how c.args.making.replace files
     (contents c.convert_beside.new.host) left (around c.convert_beside.new.host) c.args.from.now c.args.to.now)
     (contents c.clear.new.host) (around c.clear.new.host) c.clear.ensures c.convert_beside.ensures.converted
 

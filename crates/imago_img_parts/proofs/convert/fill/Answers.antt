@@ -10,26 +10,25 @@ pub returns-in-Ok-clause-filled : goal.returns-in-Ok-clause-filled
 returns-in-Ok-clause-filled g c =
     let contents = g.H.Files.contents in
     let opened = g.H.File.HostFile.contents in
-    appended_disk (view_over (features_of contents opened) faults_of (bytes_of contents opened)) c.args.how.accepted
-    c.args.how.other_files c.args.how.format (contents c.args.host.now) c.args.from.now
+    appended_disk (view_over (features_of contents opened) faults_of (bytes_of contents opened)) c.args.how (contents c.args.host.now) c.args.from.now
     c.in_ok-image.field-0-0 c.in_ok-image.image _ _ c.in_ok-image.ensures.format
     c.in_ok-image.ensures.image c.in-Ok.ensures.put
 
 pub returns-in_err-image-clause-refused : goal.returns-in_err-image-clause-refused
 returns-in_err-image-clause-refused g c =
-    on_refusal _ _ (nothing_appended c.args.how.accepted c.args.how.other_files c.args.how.format
+    on_refusal _ _ (nothing_appended c.args.how
     (g.H.Files.contents c.args.host.now) c.args.from.now (g.T.Target.contents c.args.target.now))
 
 pub returns-in_err-buf-clause-refused : goal.returns-in_err-buf-clause-refused
 returns-in_err-buf-clause-refused g c =
-    on_refusal _ _ (nothing_appended c.args.how.accepted c.args.how.other_files c.args.how.format
+    on_refusal _ _ (nothing_appended c.args.how
     (g.H.Files.contents c.args.host.now) c.args.from.now (g.T.Target.contents c.args.target.now))
 
 pub returns-in-Err-Image-clause-refused : goal.returns-in-Err-Image-clause-refused
 returns-in-Err-Image-clause-refused g c =
     let contents = g.H.Files.contents in
     let opened = g.H.File.HostFile.contents in
-    partly_appended c.args.how.accepted c.args.how.other_files c.args.how.format
+    partly_appended c.args.how
     (view_over (features_of contents opened) faults_of (bytes_of contents opened)) (contents c.args.host.now)
     c.args.from.now c.in_ok-image.field-0-0 c.in_ok-image.image (g.T.Target.contents c.args.target.now)
     (g.T.Target.contents c.copy_disk.new.target) c.in_ok-image.ensures.format c.in_ok-image.ensures.image
@@ -39,7 +38,7 @@ pub returns-clause-refused : goal.returns-clause-refused
 returns-clause-refused g c =
     let contents = g.H.Files.contents in
     let opened = g.H.File.HostFile.contents in
-    partly_appended c.args.how.accepted c.args.how.other_files c.args.how.format
+    partly_appended c.args.how
     (view_over (features_of contents opened) faults_of (bytes_of contents opened)) (contents c.args.host.now)
     c.args.from.now c.in_ok-image.field-0-0 c.in_ok-image.image (g.T.Target.contents c.args.target.now)
     (g.T.Target.contents c.copy_disk.new.target) c.in_ok-image.ensures.format c.in_ok-image.ensures.image

@@ -9,7 +9,6 @@ pub returns : goal.returns
 returns g c =
     let contents = g.H.Files.contents in
     let opened = g.H.File.HostFile.contents in
-    sized (view_over (features_of contents opened) faults_of (bytes_of contents opened)) c.args.how.accepted
-    c.args.how.other_files c.args.how.format (contents c.args.host.now) c.args.from.now
+    sized (view_over (features_of contents opened) faults_of (bytes_of contents opened)) c.args.how (contents c.args.host.now) c.args.from.now
     c.in_ok-image.field-0-0 c.in_ok-image.image c.in_ok-size.size c.in_ok-size.ensures
     c.in_ok-image.ensures.format c.in_ok-image.ensures.image

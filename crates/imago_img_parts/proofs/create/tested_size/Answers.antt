@@ -1,12 +1,14 @@
 -- SPDX-License-Identifier: MIT
 use Rattle.std.proofs.Common.{ℕ, IfSome, subst, sym}
 use Rattle.imago_img_parts.specs.NewFiles.{IsSizeBy}
-use Rattle.imago_img_parts.proofs.NewFiles.{sized_by}
+use Rattle.imago_img_parts.proofs.NewFiles.{sized_by, above_image, planned_so}
 use Rattle.imago_img_parts.proofs.create.tested_size.Goals as goal
 
 pub returns : goal.returns
 returns g c =
     let known = g.H.Files.contents c.args.host.now in
     let asked = c.args.asked in
-    subst (λ (n : ℕ). IfSome known (λ files. IsSizeBy asked asked.size files n)) (sym c.unwrap_or.ensures)
-    (sized_by asked asked.size c.in_ok-below.below known c.in_ok-below.ensures)
+    planned_so asked c.unwrap_or.result known
+    (subst (λ (n : ℕ). IfSome known (λ files. IsSizeBy asked asked.size files n)) (sym c.unwrap_or.ensures)
+    (sized_by asked asked.size c.in_ok-below.below known c.in_ok-below.ensures))
+    (above_image asked asked.backing c.in_ok-below.below known c.in_ok-below.ensures)

@@ -14,7 +14,7 @@ end-requires g c =
     let made = made_as (contents c.args.host.now) (g.H.Target.Target.made_for target) c.args.to.now c.file_length.result
     (file_length layout) c.file_length.ensures c.in-Ok.ensures.made_for in
     record {
-      whole = whole_new (IsCopyBy how.accepted how.other_files how.format c.args.from.now layout)
+      whole = whole_new (IsCopyBy how c.args.from.now layout)
           (contents c.args.host.now) (contents c.create.new.self) c.args.to.now (file_length layout)
           (g.H.Target.Target.made_for target) (g.H.Target.Target.made_for full) (g.H.Target.Target.contents target)
           (g.H.Target.Target.contents full) c.write_shown-target.result.1 c.in-Ok.ensures.same
@@ -33,12 +33,12 @@ returns-in-Ok-clause-converted g c =
     let made = made_as (contents c.args.host.now) (g.H.Target.Target.made_for target) c.args.to.now c.file_length.result
     (file_length layout) c.file_length.ensures c.in-Ok.ensures.made_for in
     let created = c.in-Ok.ensures in
-    newly_made (IsCopyBy how.accepted how.other_files how.format c.args.from.now layout)
-    (IsQcow2Copy how.accepted how.other_files how.format c.args.from.now c.args.new.format)
-    (contents c.args.host.now) (copy_in how.accepted how.other_files how.format c.args.from.now c.args.new.format
+    newly_made (IsCopyBy how c.args.from.now layout)
+    (IsQcow2Copy how c.args.from.now c.args.new.format)
+    (contents c.args.host.now) (copy_in how c.args.from.now c.args.new.format
     layout c.in_ok-layout.ensures (contents c.args.host.now)) c.end.result c.args.making.replace (contents c.end.new.host)
     (around c.args.host.now) (around c.end.new.host) c.args.to.now
-    (made_new (IsCopyBy how.accepted how.other_files how.format c.args.from.now layout)
+    (made_new (IsCopyBy how c.args.from.now layout)
     (contents c.args.host.now) (contents c.create.new.self) c.args.to.now (file_length layout)
     (g.H.Target.Target.made_for target) (g.H.Target.Target.made_for full) (g.H.Target.Target.contents target)
     (g.H.Target.Target.contents full) c.write_shown-target.result.1 created.same

@@ -9,7 +9,7 @@ pub returns-in-Ok-clause-written : goal.returns-in-Ok-clause-written
 returns-in-Ok-clause-written g c = λ empty.
     let contents = g.H.Files.contents in
     let opened = g.H.File.HostFile.contents in
-    copied c.args.how.accepted c.args.how.other_files c.args.how.format c.args.from.now
+    copied c.args.how c.args.from.now
     (view_over (features_of contents opened) faults_of (bytes_of contents opened)) c.args.layout.now
     (contents c.args.host.now) c.in_ok-image.field-0-0 c.in_ok-image.image _ _ c.in_ok-image.ensures.format
     c.in_ok-image.ensures.image c.in-Ok.ensures.size (c.in-Ok.ensures.written empty)

@@ -25,7 +25,7 @@ returns-in-Ok-clause-written g c =
     let target = c.in-Ok.target in
     let full = c.fill_shown-target.result.0 in
     let opened = c.in-Ok.ensures in
-    written_over c.args.how.accepted c.args.how.other_files c.args.how.format (contents c.args.host.now)
+    written_over c.args.how (contents c.args.host.now)
     (contents c.open_existing.new.self) (contents c.close_existing.new.self) c.args.from.now c.args.to.now c.in_ok-size.size
     (g.H.Existing.Target.made_for target) (g.H.Existing.Target.made_for full) (g.H.Existing.Target.contents target)
     (g.H.Existing.Target.contents full) c.fill_shown-target.result.1 opened.same c.fill_shown-target.ensures.same
@@ -38,7 +38,7 @@ returns-in-Ok-clause-refused g c =
     let target = c.in-Ok.target in
     let full = c.fill_shown-target.result.0 in
     let opened = c.in-Ok.ensures in
-    partly_over c.args.how.accepted c.args.how.other_files c.args.how.format (contents c.args.host.now)
+    partly_over c.args.how (contents c.args.host.now)
     (contents c.open_existing.new.self) (contents c.close_existing.new.self) c.args.from.now c.args.to.now c.in_ok-size.size
     (g.H.Existing.Target.made_for target) (g.H.Existing.Target.made_for full) (g.H.Existing.Target.contents target)
     (g.H.Existing.Target.contents full) c.fill_shown-target.result.1 opened.same c.fill_shown-target.ensures.same

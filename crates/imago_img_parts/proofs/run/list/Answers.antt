@@ -1,0 +1,12 @@
+-- SPDX-License-Identifier: MIT
+use Rattle.std.proofs.Common.{refl}
+use Rattle.imago_img_parts.specs.Openings.{how_by}
+use Rattle.imago_img_parts.proofs.Disks.{image_as_said}
+use Rattle.imago_img_parts.proofs.run.list.Goals as goal
+
+pub returns : goal.returns
+returns g c = (
+  refl,
+  image_as_said c.how_to_open-how.result (how_by c.args.asked.format c.args.asked.opening)
+      c.how_to_open-how.ensures (g.H.Files.contents c.args.host.now) c.args.asked.file.now c.in_ok-map_image.ensures,
+)
