@@ -11,7 +11,7 @@ use crate::layer_files::FileDriver;
 use crate::short::{ShortFile, ShortFiles, short_file};
 use imago_access::access::FormatAccess;
 use imago_copy::runs::{Kind, Run, Runs};
-use imago_drivers::drivers::FormatDriverInstance;
+use imago_drivers::drivers::{Format, FormatDriverInstance};
 use imago_qcow2::header::Compression;
 use imago_qcow2::qcow2::Qcow2;
 use imago_storage::error::Error;
@@ -80,13 +80,43 @@ fn short_of<D: FileDriver>(image: &FormatAccess<D>, run: Run) -> Option<ShortFil
     }
 }
 
+/// Whether the tables of a layer show that all of its disk can be read, and that its file ends
+/// before none of it.
+fn is_sound<D: FileDriver>(driver: &D) -> bool {
+    let Some(qcow2) = driver.qcow2() else {
+        return driver.format() == Format::Raw;
+    };
+    match driver.file(0) {
+        Some((_, status)) => qcow2.is_sound(status.length),
+        None => false,
+    }
+}
+
+/// The same of each layer of an image.
+fn are_sound<D: FileDriver>(image: &FormatAccess<D>) -> bool {
+    let mut layer = Some(image);
+    while let Some(here) = layer {
+        if !is_sound(here.inner()) {
+            return false;
+        }
+        layer = here.backing();
+    }
+    true
+}
+
 /// The file that has the first cluster of a disk that is compressed in a way that isn't offered,
 /// and where that cluster begins on the disk, if there is one. The files that end before bytes of
 /// the disk do are put to the others, as far as they come before it.
+///
+/// Most disks have no such cluster and no such file, and a look at the tables of each layer by
+/// itself shows so. Only where it doesn't is the disk gone through run by run.
 pub fn unoffered_in<'b, D: FileDriver>(
     image: &'b FormatAccess<D>,
     short: &mut ShortFiles<'b>,
 ) -> Result<Option<(&'b str, u64)>, Error> {
+    if are_sound(image) {
+        return Ok(None);
+    }
     let mut runs = Runs::new(image)?;
     while let Some(run) = runs.next_run()? {
         let found = unoffered(image, run);
