@@ -35,7 +35,7 @@ pub fn obey(alloc: Global, files: &mut Files, line: &str, digest: &mut Digest) -
 }
 
 /// Adds a qcow2 file.
-fn add_qcow2(
+pub fn add_qcow2(
     alloc: Global,
     random: &mut Random,
     files: &mut Files,

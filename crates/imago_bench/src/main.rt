@@ -16,6 +16,7 @@ mod files;
 mod guest;
 mod layers;
 mod packed;
+mod pieces;
 mod qcow2;
 mod random;
 mod scripts;
@@ -28,8 +29,8 @@ use std::env;
 use std::process::ExitCode;
 
 /// The jobs that there are.
-const JOBS: [&str; 7] = [
-    "look", "copy", "serve", "layers", "extents", "script", "packed",
+const JOBS: [&str; 8] = [
+    "look", "copy", "serve", "layers", "extents", "script", "packed", "pieces",
 ];
 
 /// Does a job on an input of that size.
@@ -51,6 +52,7 @@ fn work(
         }
         "script" => scripts::replay(alloc, random, size, digest),
         "packed" => packed::packed(alloc, random, size, digest),
+        "pieces" => pieces::pieces(alloc, random, size, digest),
         _ => None,
     }
 }

@@ -15,6 +15,8 @@ pub enum Pattern {
     Scattered(u64),
     /// None. Of two L2 tables one is absent.
     Fresh,
+    /// All, and they stand in the file in no order.
+    Shuffled,
 }
 
 /// What a qcow2 file is to have.
@@ -184,6 +186,7 @@ fn used_clusters(alloc: Global, random: &mut Random, shape: Shape<'_>) -> Option
             }
         }
         Pattern::Fresh => {}
+        Pattern::Shuffled => used.fill(true),
     }
     Some(used)
 }
@@ -192,7 +195,7 @@ fn used_clusters(alloc: Global, random: &mut Random, shape: Shape<'_>) -> Option
 fn is_left_out(random: &mut Random, pattern: Pattern) -> bool {
     match pattern {
         Pattern::Worn => random.is_one_of(16),
-        Pattern::Scattered(_) => false,
+        Pattern::Scattered(_) | Pattern::Shuffled => false,
         Pattern::Fresh => random.is_one_of(2),
     }
 }
@@ -209,6 +212,28 @@ struct Entries {
     count: u64,
 }
 
+/// The entries of a disk of which all clusters have data, which stand in no order.
+fn shuffled(alloc: Global, random: &mut Random, clusters: u64, table_length: u64) -> Option<Entries>
+    requires { 0 < table_length }
+{
+    let tables = clusters.div_ceil(table_length);
+    let mut places = Vec::new(alloc);
+    for number in 0..clusters {
+        places.push(Some(number)).ok()?;
+    }
+    for number in 0..clusters {
+        let other = random.below(clusters) as usize;
+        if other < places.len() && (number as usize) < places.len() {
+            places.swap(number as usize, other);
+        }
+    }
+    Some(Entries {
+        tables: vec![in alloc; true; tables as usize].ok()?,
+        places,
+        count: clusters,
+    })
+}
+
 /// Decides what the entries of a file's tables lead to, for so many entries in a table.
 fn entries_of(
     alloc: Global,
@@ -218,6 +243,9 @@ fn entries_of(
 ) -> Option<Entries>
     requires { 0 < table_length }
 {
+    if matches!(shape.pattern, Pattern::Shuffled) {
+        return shuffled(alloc, random, shape.clusters, table_length as u64);
+    }
     let used = used_clusters(alloc, random, shape)?;
     let mut tables = Vec::new(alloc);
     let mut places = Vec::new(alloc);
