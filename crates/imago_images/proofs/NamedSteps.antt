@@ -130,10 +130,11 @@ module _ {S Gate : Type 0} (bytes : S → List ℕ) (features : S → Features) 
         names_told (resolved s) beside false (extents_in v) found.0 here.0 (storages_of_extents v) image.4,
       )
 
-module _ {H File S : Type 0} (contents : H → Option (List ℕ → List ℕ)) (features : S → Features) (bytes : S → List ℕ) where
+module _ {H File S : Type 0} {g : _} {h : _} (contents : H → Option (List ℕ → List ℕ)) (features : S → Features)
+    (bytes : S → List ℕ) where
   -- a storage that a gate hands out has the name that was asked for
   looked_named :
-      (direct : Bool) (name : List ℕ) (before after : MutBor (FolderGate H File)) (s : S)
+      (direct : Bool) (name : List ℕ) (before after : MutBor (FolderGate H File g h)) (s : S)
       → IsLookedBy contents features bytes (extent_options direct name) before after (Ok s)
       → (features s).filename ≡ Some name
   looked_named direct name before after s (same, image, allowed, at) =
@@ -142,7 +143,7 @@ module _ {H File S : Type 0} (contents : H → Option (List ℕ → List ℕ)) (
   -- the storages of a VMDK image over the files of a host
   pub vmdk_named :
       {i : _} {j : _} (resolved : S → List ℕ → List ℕ → Type 0) (host : H) (path : List ℕ)
-      (accepted : Accepted) (file : S) (gate : MutBor (FolderGate H File)) (settings : OpenSettings S)
+      (accepted : Accepted) (file : S) (gate : MutBor (FolderGate H File g h)) (settings : OpenSettings S)
       (set : Accepted) (v : Vmdk S i j)
       → IfSome (contents host) (λ files. HasBytes features bytes (files path) file)
       → (features file).filename ≡ Some path

@@ -8,6 +8,7 @@ mod Told
 mod TextSteps
 mod FaultSteps
 mod Cleared
+mod Elsewhere
 mod Opened
 mod LongestLaws
 mod DescribedSteps

@@ -12,6 +12,7 @@ use Rattle.imago_words.specs.declared.settings.NewFormat.TheVariants as New
 use Rattle.imago_words.specs.Line.{Asks, kind_typed, line_is_meant, status_for}
 use Rattle.imago_qcow2_check.specs.declared.fault.Verdict.{Verdict}
 use Rattle.imago_qcow2_check.specs.Verdicts.{status_of}
+use Rattle.imago_images.specs.declared.files.FileStatus.{FileStatus}
 use Rattle.imago_images.specs.declared.format.ImageFormat.{ImageFormat}
 use Rattle.imago_images.specs.declared.opening.Opening.{Opening}
 use Rattle.imago_img_parts.specs.declared.question.Question.{Question}
@@ -25,6 +26,7 @@ use Rattle.imago_img_parts.specs.Measures.{IsMeasured}
 use Rattle.imago_img_parts.specs.NewFiles.{IsNewImage, IsNewlyMade, IsQcow2Copy, format_by}
 use Rattle.imago_img_parts.specs.Checked.{IsChecked}
 use Rattle.imago_img_parts.specs.Described.{IsDescribed}
+use Rattle.imago_img_parts.specs.LeftOvers.{IsApart, IsApartBelow}
 use Rattle.imago_img_parts.specs.Openings.{how_by, image_format}
 use Rattle.imago_img_parts.specs.Resized.{IsImageResized}
 use Rattle.imago_img_parts.specs.Vetted.{IsVetted}
@@ -112,13 +114,14 @@ IsAsked refused question old new before after status =
 
 -- With status 0 a file was made for a path; else the status is 1, and the files are as they were.
 -- If a file may be replaced, the unfinished file of an earlier command to the same path may be gone
--- before.
+-- before, where it might be removed.
 abbrev pub IsMadeOrNot :
-    Bool → List ℕ → (Option (List ℕ → List ℕ) → Option Around → Type 0) → Option (List ℕ → List ℕ)
-    → Option (List ℕ → List ℕ) → Option Around → Option Around → ℕ → Type 0
-IsMadeOrNot force target Made old new before after status =
-    ((status ≡ 0) × IsSoOnceCleared force old before target Made)
-    ⊎ ((status ≡ 1) × IsSoOnceCleared force old before target
+    Bool → List ℕ → Type 0 → (Option (List ℕ → List ℕ) → Option Around → Type 0)
+    → Option (List ℕ → List ℕ) → Option (List ℕ → List ℕ) → Option Around → Option Around → ℕ
+    → Type 0
+IsMadeOrNot force target Might Made old new before after status =
+    ((status ≡ 0) × IsSoOnceCleared force old before target Might Made)
+    ⊎ ((status ≡ 1) × IsSoOnceCleared force old before target Might
     (λ files around. (new ≡ files) × (after ≡ around)))
 
 -- an image was converted to a new file of that format, by how it is opened
@@ -131,20 +134,26 @@ IsConvertedTo (New.Qcow2 settings) how c files new around after =
     IsNewlyMade (IsQcow2Copy how c.source.now (format_by settings)) c.force files new around after
     c.target.now
 
+-- The same, where the unfinished file of an earlier command might be removed if it is none of the
+-- files of the image.
 abbrev pub IsNewlyConverted :
-    Opening → Convert → Option (List ℕ → List ℕ) → Option (List ℕ → List ℕ)
-    → Option Around → Option Around → ℕ → Type 0
-IsNewlyConverted how c old new before after status =
+    Opening → Convert → Option (List ℕ → FileStatus) → Option (List ℕ → FileStatus)
+    → Option (List ℕ → List ℕ) → Option (List ℕ → List ℕ) → Option Around → Option Around → ℕ
+    → Type 0
+IsNewlyConverted how c statuses left_overs old new before after status =
     IsMadeOrNot c.force c.target.now
+    (IsApart how old statuses left_overs c.source.now c.target.now)
     (λ files around. IsConvertedTo c.target_format how c files new around after)
     old new before after status
 
--- a new image was made
+-- a new image was made, where the unfinished file of an earlier command might be removed if it is
+-- none of the files of the layer below
 abbrev pub IsCreated :
-    Create → Option (List ℕ → List ℕ) → Option (List ℕ → List ℕ)
-    → Option Around → Option Around → ℕ → Type 0
-IsCreated c old new before after status =
-    IsMadeOrNot c.force c.target.now
+    Create → Option (List ℕ → FileStatus) → Option (List ℕ → FileStatus)
+    → Option (List ℕ → List ℕ) → Option (List ℕ → List ℕ) → Option Around → Option Around → ℕ
+    → Type 0
+IsCreated c statuses left_overs old new before after status =
+    IsMadeOrNot c.force c.target.now (IsApartBelow c c.backing old statuses left_overs)
     (λ files around. IsNewlyMade (IsNewImage c) c.force files new around after c.target.now)
     old new before after status
 
@@ -158,10 +167,12 @@ IsConvertedInto how c old new status =
 
 -- the one or the other, by whether the file has to be there
 abbrev pub IsConvertedBy :
-    Opening → Convert → Option (List ℕ → List ℕ) → Option (List ℕ → List ℕ)
-    → Option Around → Option Around → ℕ → Type 0
-IsConvertedBy how c old new before after status =
-    (c.existing ≡ false → IsNewlyConverted how c old new before after status)
+    Opening → Convert → Option (List ℕ → FileStatus) → Option (List ℕ → FileStatus)
+    → Option (List ℕ → List ℕ) → Option (List ℕ → List ℕ) → Option Around → Option Around → ℕ
+    → Type 0
+IsConvertedBy how c statuses left_overs old new before after status =
+    (c.existing ≡ false
+    → IsNewlyConverted how c statuses left_overs old new before after status)
     × (c.existing ≡ true → (after ≡ before) × IsConvertedInto how c old new status)
 
 -- With status 0 a raw image got another size; else the status is 1, and the files are as they were.
@@ -176,29 +187,31 @@ IsResizedOrNot r old new before after status =
 -- What a command did to the files of a host, and what its status says of them, where that is told.
 -- The first number is the status of a refused line.
 abbrev pub IsPerformed :
-    ℕ → Command → Option (List ℕ → List ℕ) → Option (List ℕ → List ℕ)
-    → Option Around → Option Around → ℕ → Type 0
-IsPerformed refused (Asked.Convert c) old new before after status =
-    IsConvertedBy (how_by c.source_format c.opening) c old new before after status
-IsPerformed refused (Asked.Create c) old new before after status =
-    IsCreated c old new before after status
-IsPerformed refused (Asked.Measure c) old new before after status =
+    ℕ → Command → Option (List ℕ → FileStatus) → Option (List ℕ → FileStatus)
+    → Option (List ℕ → List ℕ) → Option (List ℕ → List ℕ) → Option Around → Option Around → ℕ
+    → Type 0
+IsPerformed refused (Asked.Convert c) statuses left_overs old new before after status =
+    IsConvertedBy (how_by c.source_format c.opening) c statuses left_overs old new before after
+    status
+IsPerformed refused (Asked.Create c) statuses left_overs old new before after status =
+    IsCreated c statuses left_overs old new before after status
+IsPerformed refused (Asked.Measure c) statuses left_overs old new before after status =
     IsAsked refused (Q.Measure c) old new before after status
-IsPerformed refused (Asked.Resize c) old new before after status =
+IsPerformed refused (Asked.Resize c) statuses left_overs old new before after status =
     IsResizedOrNot c old new before after status
-IsPerformed refused (Asked.Help kind) old new before after status =
+IsPerformed refused (Asked.Help kind) statuses left_overs old new before after status =
     IsAsked refused (Q.Help kind) old new before after status
-IsPerformed refused Asked.Version old new before after status =
+IsPerformed refused Asked.Version statuses left_overs old new before after status =
     IsAsked refused Q.Version old new before after status
-IsPerformed refused (Asked.Info c) old new before after status =
+IsPerformed refused (Asked.Info c) statuses left_overs old new before after status =
     IsAsked refused (Q.Info c) old new before after status
-IsPerformed refused (Asked.Map c) old new before after status =
+IsPerformed refused (Asked.Map c) statuses left_overs old new before after status =
     IsAsked refused (Q.Map c) old new before after status
-IsPerformed refused (Asked.Check c) old new before after status =
+IsPerformed refused (Asked.Check c) statuses left_overs old new before after status =
     IsAsked refused (Q.Check c) old new before after status
-IsPerformed refused (Asked.Vet c) old new before after status =
+IsPerformed refused (Asked.Vet c) statuses left_overs old new before after status =
     IsAsked refused (Q.Vet c) old new before after status
-IsPerformed refused (Asked.Compare c) old new before after status =
+IsPerformed refused (Asked.Compare c) statuses left_overs old new before after status =
     IsAsked refused (Q.Compare c) old new before after status
 
 -- the status of a refused line: 2 for `compare`, and else 1
@@ -208,9 +221,10 @@ refused_status words = status_for (kind_typed words)
 -- What a command line did to the files of a host: it is meant, and what its words ask for was done;
 -- or it was refused, which changes nothing.
 abbrev pub IsRun :
-    List (List ℕ) → Option (List ℕ → List ℕ) → Option (List ℕ → List ℕ)
-    → Option Around → Option Around → ℕ → Type 0
-IsRun words old new before after status =
+    List (List ℕ) → Option (List ℕ → FileStatus) → Option (List ℕ → FileStatus)
+    → Option (List ℕ → List ℕ) → Option (List ℕ → List ℕ) → Option Around → Option Around → ℕ
+    → Type 0
+IsRun words statuses left_overs old new before after status =
     ((command : Command) × (line_is_meant words ≡ true) × Asks words command
-    × IsPerformed (refused_status words) command old new before after status)
+    × IsPerformed (refused_status words) command statuses left_overs old new before after status)
     ⊎ ((status ≡ refused_status words) × (new ≡ old) × (after ≡ before))

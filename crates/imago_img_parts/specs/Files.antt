@@ -51,14 +51,15 @@ IsWithoutLeftOver (Some old) new (Some before) after path =
     × IsGone old files before now (before.beside path)
 
 -- Something is so of all files as they are. If the file of the path may be replaced, it is so of
--- them as they are, or without the unfinished file that a copy to that path left.
+-- them as they are, or without the unfinished file that a copy to that path left; and then that one
+-- might be removed.
 abbrev pub IsSoOnceCleared :
-    Bool → Option (List ℕ → List ℕ) → Option Around → List ℕ
+    Bool → Option (List ℕ → List ℕ) → Option Around → List ℕ → Type 0
     → (Option (List ℕ → List ℕ) → Option Around → Type 0) → Type 0
-IsSoOnceCleared false files around path IsSo = IsSo files around
-IsSoOnceCleared true files around path IsSo = IsSo files around
-    ⊎ ((cleared : Option (List ℕ → List ℕ)) × (left : Option Around)
-    × IsWithoutLeftOver files cleared around left path × IsSo cleared left)
+IsSoOnceCleared false files around path Might IsSo = IsSo files around
+IsSoOnceCleared true files around path Might IsSo = IsSo files around
+    ⊎ (Might × ((cleared : Option (List ℕ → List ℕ)) × (left : Option Around)
+    × IsWithoutLeftOver files cleared around left path × IsSo cleared left))
 
 -- A file of that path has those bytes now, and all others have what they had, where that is told.
 abbrev pub IsMade : Option (List ℕ → List ℕ) → Option (List ℕ → List ℕ) → List ℕ → Option (List ℕ)

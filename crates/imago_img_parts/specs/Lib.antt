@@ -8,6 +8,7 @@ pub mod Checked
 pub mod Extents
 pub mod Openings
 pub mod Measures
+pub mod LeftOvers
 pub mod Resized
 pub mod Reaches
 pub mod Described

@@ -4,17 +4,20 @@ ghost use Rattle.std.specs.Prelude.{◌≡◌, OnOk, OnErr, IfOk, IfSome, IsOk, 
 ghost use Rattle.imago_img_parts.specs.Disks.{HasSize, IsDiskAppended, IsDiskPartlyAppended};
 ghost use Rattle.imago_img_parts.specs.Disks.{IsConverted};
 ghost use Rattle.imago_img_parts.specs.Files.{ended, with_file, IsMade, IsSoOnceCleared};
-ghost use Rattle.imago_img_parts.specs.Files.{IsWhole, IsWithoutLeftOver};
+ghost use Rattle.imago_img_parts.specs.Files.{IsWhole};
+ghost use Rattle.imago_img_parts.specs.LeftOvers.{IsApart, IsNoSource};
+ghost use Rattle.imago_images.specs.Way.{identity};
 
 use crate::failure::{Failure, Reason, Refusal};
-use crate::host::{FileKind, FileStatus, Host, Making};
+use crate::host::{FileKind, FileStatus, Host, LeftOver, Making};
 use crate::image::{CHUNK, has_file, not_read, opened, readable_size};
 use crate::progress::Progress;
+use crate::unfinished::{left_by, remove_left_over, test_apart};
 use imago_copy::copy::{CopyError, copy_disk};
 use imago_copy::target::Target;
 use imago_images::opener::FileImage;
 use imago_images::opening::Opening;
-use std::io::{self, ErrorKind, Write};
+use std::io::{ErrorKind, Write};
 
 /// Writes the disk of an image to a raw file of that path. What the image's files have says what
 /// the new file then has: the image's disk, byte for byte. What is known to be zero there stays a
@@ -35,10 +38,12 @@ pub fn convert_image<H: Host, E: Write>(
     warnings: &mut E,
 ) -> Result<(), Failure>
     ensures converted { OnOk result (IsSoOnceCleared making.replace (H.contents host.old)
-        (H.around host.old) to.now (λ files around. IsConverted how making.replace
-        files (H.contents host.new) around (H.around host.new) from.now to.now)) }
+        (H.around host.old) to.now (IsApart how (H.contents host.old) (H.statuses host.old)
+        (H.left_overs host.old) from.now to.now) (λ files around. IsConverted how making.replace files (H.contents host.new) around (H.around host.new)
+        from.now to.now)) }
     ensures refused { OnErr result (IsSoOnceCleared making.replace (H.contents host.old)
-        (H.around host.old) to.now
+        (H.around host.old) to.now (IsApart how (H.contents host.old) (H.statuses host.old)
+        (H.left_overs host.old) from.now to.now)
         (λ files around. (H.contents host.new ≡ files) × (H.around host.new ≡ around))) }
 {
     clear(host, from, to, how, making.replace)?;
@@ -55,33 +60,35 @@ pub(crate) fn clear<H: Host>(
     replace: bool,
 ) -> Result<(), Failure>
     ensures { IsSoOnceCleared replace (H.contents host.old) (H.around host.old) to.now
+        (IsApart how (H.contents host.old) (H.statuses host.old) (H.left_overs host.old) from.now
+        to.now)
         (λ files around. (H.contents host.new ≡ files) × (H.around host.new ≡ around)) }
 {
     if !replace {
         return Ok(());
     }
-    if !has_left_over(&*host, to)? {
+    let Some(left) = left_by(&*host, to)? else {
         return Ok(());
-    }
-    tested_size(&*host, from, to, how, true, &mut io::sink())?;
+    };
+    test_removal(&*host, from, to, how, &left)?;
     remove_left_over(host, to)
 }
 
-/// Whether a copy to that path left an unfinished file when it was killed.
-pub(crate) fn has_left_over<H: Host>(host: &H, to: &str) -> Result<bool, Failure> {
-    let left = Failure::or_system(host.alloc(), to, host.left_over(to))?;
-    Ok(left.is_some())
-}
-
-/// Removes the unfinished file that a copy to that path left.
-pub(crate) fn remove_left_over<H: Host>(host: &mut H, to: &str) -> Result<(), Failure>
-    ensures gone { OnOk result (IsWithoutLeftOver (H.contents host.old) (H.contents host.new)
-        (H.around host.old) (H.around host.new) to.now) }
-    ensures same { OnErr result (H.contents host.new ≡ H.contents host.old) }
-    ensures refused { OnErr result (H.around host.new ≡ H.around host.old) }
+/// Whether nothing but an unfinished file speaks against the copy, and that file may be removed.
+fn test_removal<H: Host>(
+    host: &H,
+    from: &str,
+    to: &str,
+    how: Opening,
+    left: &LeftOver,
+) -> Result<(), Failure>
+    ensures { OnOk result (IsNoSource how (H.contents host.now) (H.statuses host.now) from.now
+        (identity left.now.status)) }
 {
-    let removed = host.remove_left_over(to);
-    Failure::or_system(host.alloc(), to, removed)
+    let (_, image) = opened(host, from, how)?;
+    readable_size(host.alloc(), from, &image)?;
+    test_target(host, &image, to, true)?;
+    test_apart(host, &image, left)
 }
 
 /// Does the same where no unfinished file is left beside the path. Refused, it leaves all files as
@@ -213,7 +220,7 @@ pub(crate) fn end<H: Host>(
 }
 
 /// Whether the disk of an image may be written to a file of that path.
-fn test_target<H: Host>(
+pub(crate) fn test_target<H: Host>(
     host: &H,
     image: &FileImage<'_, H>,
     to: &str,
@@ -230,33 +237,20 @@ fn test_target<H: Host>(
     }
 }
 
-/// Whether no unfinished file stands beside a path, or one that may be removed: it isn't a file of
-/// the image, nor a link to one.
+/// Whether no unfinished file stands beside a path, or one that may be removed.
 fn test_left_over<H: Host>(
     host: &H,
     image: &FileImage<'_, H>,
     to: &str,
     replace: bool,
 ) -> Result<(), Failure> {
-    let alloc = host.alloc();
-    let Some(left) = Failure::or_system(alloc, to, host.left_over(to))? else {
+    let Some(left) = left_by(host, to)? else {
         return Ok(());
     };
     if !replace {
-        return Err(Failure::of_target(alloc, &left.path, Refusal::LeftOver));
+        return Err(Failure::of_target(host.alloc(), &left.path, Refusal::LeftOver));
     }
-    if has_file(image, left.status) || leads_to_file(host, image, &left.path) {
-        return Err(Failure::of_target(alloc, &left.path, Refusal::IsSource));
-    }
-    Ok(())
-}
-
-/// Whether a path leads to a file of an image, as a link may by which the command line names it.
-fn leads_to_file<H: Host>(host: &H, image: &FileImage<'_, H>, path: &str) -> bool {
-    match host.status(path) {
-        Ok(there) => has_file(image, there),
-        Err(_) => false,
-    }
+    test_apart(host, image, &left)
 }
 
 /// Why a file isn't replaced, which may be one of the image that is read.

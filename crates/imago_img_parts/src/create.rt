@@ -9,16 +9,19 @@ ghost use Rattle.imago_words.specs.declared.settings.NewFormat.TheVariants as Ne
 ghost use Rattle.imago_access.specs.Chain.{driver};
 ghost use Rattle.imago_img_parts.specs.Disks.{HasSize};
 ghost use Rattle.imago_img_parts.specs.Files.{IsSoOnceCleared};
+ghost use Rattle.imago_img_parts.specs.LeftOvers.{IsApartBelow, IsNoSource, IsNoSourceBelow};
+ghost use Rattle.imago_images.specs.Way.{identity};
 ghost use Rattle.imago_img_parts.specs.NewFiles.{HasNamesBelow, IsEmptyFile, IsFilledWith};
 ghost use Rattle.imago_img_parts.specs.NewFiles.{IsNewImage, IsNewlyMade, IsPlanned, IsSizeBelow};
 ghost use Rattle.imago_img_parts.specs.NewFiles.{format_by, format_text};
 
-use crate::convert::{end, has_left_over, remove_left_over, target_fault, test_place};
+use crate::convert::{end, target_fault, test_place, test_target};
 use crate::failure::{Failure, Reason, Refusal};
-use crate::host::{Host, Making};
+use crate::host::{Host, LeftOver, Making};
 use crate::image::{CHUNK, opened};
 use crate::new_qcow2::of_format;
 use crate::opening::{how_to_open, new_format};
+use crate::unfinished::{left_by, remove_left_over, test_apart};
 use imago_any_driver::any::AnyDriver;
 use imago_copy::target::Target;
 use imago_drivers::drivers::FormatDriverInstance;
@@ -46,11 +49,13 @@ use std::io::ErrorKind;
 /// made or changed.
 pub fn create_image<H: Host>(host: &mut H, asked: Create<'_>) -> Result<(), Failure>
     ensures created { OnOk result (IsSoOnceCleared asked.entry.force (H.contents host.old)
-        (H.around host.old) asked.entry.target.now (λ files around. IsNewlyMade
+        (H.around host.old) asked.entry.target.now (IsApartBelow asked.entry asked.entry.backing
+        (H.contents host.old) (H.statuses host.old) (H.left_overs host.old)) (λ files around. IsNewlyMade
         (IsNewImage asked.entry) asked.entry.force files (H.contents host.new) around
         (H.around host.new) asked.entry.target.now)) }
     ensures refused { OnErr result (IsSoOnceCleared asked.entry.force (H.contents host.old)
-        (H.around host.old) asked.entry.target.now
+        (H.around host.old) asked.entry.target.now (IsApartBelow asked.entry asked.entry.backing
+        (H.contents host.old) (H.statuses host.old) (H.left_overs host.old))
         (λ files around. (H.contents host.new ≡ files) × (H.around host.new ≡ around))) }
 {
     clear(host, asked)?;
@@ -61,17 +66,53 @@ pub fn create_image<H: Host>(host: &mut H, asked: Create<'_>) -> Result<(), Fail
 /// replaced, and nothing else speaks against the new one.
 fn clear<H: Host>(host: &mut H, asked: Create<'_>) -> Result<(), Failure>
     ensures { IsSoOnceCleared asked.entry.force (H.contents host.old) (H.around host.old)
-        asked.entry.target.now
+        asked.entry.target.now (IsApartBelow asked.entry asked.entry.backing
+        (H.contents host.old) (H.statuses host.old) (H.left_overs host.old))
         (λ files around. (H.contents host.new ≡ files) × (H.around host.new ≡ around)) }
 {
     if !asked.force {
         return Ok(());
     }
-    if !has_left_over(&*host, asked.target)? {
+    let Some(left) = left_by(&*host, asked.target)? else {
         return Ok(());
-    }
-    tested_size(&*host, asked)?;
+    };
+    test_removal(&*host, asked, asked.backing, &left)?;
     remove_left_over(host, asked.target)
+}
+
+/// Whether nothing but an unfinished file speaks against a new image above that layer, and that file
+/// may be removed.
+fn test_removal<H: Host>(
+    host: &H,
+    asked: Create<'_>,
+    below: Option<Below<'_>>,
+    left: &LeftOver,
+) -> Result<(), Failure>
+    ensures { OnOk result (IsNoSourceBelow asked.entry below.entry (H.contents host.now)
+        (H.statuses host.now) (identity left.now.status)) }
+{
+    let Some(below) = below else {
+        return test_free(host, asked.target, asked.force);
+    };
+    let path = path_beside(host.alloc(), asked.target, below.file)?;
+    let how = how_to_open(Some(below.format), asked.opening);
+    test_removal_above(host, &path, how, asked.target, left)
+}
+
+/// The same above the image of that path.
+fn test_removal_above<H: Host>(
+    host: &H,
+    path: &str,
+    how: Opening,
+    to: &str,
+    left: &LeftOver,
+) -> Result<(), Failure>
+    ensures { OnOk result (IsNoSource how (H.contents host.now) (H.statuses host.now) path.now
+        (identity left.now.status)) }
+{
+    let (_, image) = opened(host, path, how)?;
+    test_target(host, &image, to, true)?;
+    test_apart(host, &image, left)
 }
 
 /// Does the same where no unfinished file is left beside the path. Refused, it leaves all files as

@@ -1,6 +1,6 @@
 // SPDX-License-Identifier: MIT
 //! Where the commands find files and make them, of which only some may be asked for.
-ghost use Rattle.std.specs.Prelude.{◌≡◌, ◌<◌, ◌≤◌, [], Option, Some, true, false};
+ghost use Rattle.std.specs.Prelude.{◌≡◌, ℕ, ◌<◌, ◌≤◌, [], List, Option, Some, true, false};
 ghost use Rattle.std.specs.Prelude.{OnOk, OnErr, IfOk, IfSome, length, option_map, replicate};
 ghost use Rattle.std.specs.Prelude.{string_bytes};
 ghost use Rattle.imago_plan.specs.PieceBytes.{bytes_at};
@@ -18,6 +18,8 @@ use std::io;
 /// asked for: as of [`GuardedFiles`], which ones is any set of paths. All [`Host`]s are such hosts,
 /// of which each path may be asked for.
 pub trait GuardedHost: GuardedFiles {
+    ghost use Rattle.imago_images.specs.declared.files.FileStatus.{FileStatus};
+
     /// A file that is being made.
     type Target: Target;
 
@@ -26,6 +28,9 @@ pub trait GuardedHost: GuardedFiles {
 
     /// What is told of the files beside their bytes, where an implementation says it.
     ghost around: { Self → Option Around };
+
+    /// What the unfinished file of each path is by itself, where an implementation says it.
+    ghost left_overs: { Self → Option (List ℕ → FileStatus) };
 
     /// As [`Host::run_at`], of a path that may be read.
     fn run_at(&self, path: &str, offset: u64, most: u64) -> (u64, bool)
@@ -50,7 +55,9 @@ pub trait GuardedHost: GuardedFiles {
     fn left_over(&self, path: &str) -> io::Result<Option<LeftOver>>
         requires asked { Self.may_make path.now ≡ true }
         ensures beside { IfOk result (λ found. IfSome found (λ left. IfSome (around self.now)
-            (λ a. string_bytes left.path ≡ a.beside path.now))) };
+            (λ a. string_bytes left.path ≡ a.beside path.now))) }
+        ensures told { IfOk result (λ found. IfSome found (λ left. IfSome (left_overs self.now)
+            (λ left_of. left.status ≡ left_of path.now))) };
 
     /// As [`Host::remove_left_over`], of a path for which a file may be made.
     fn remove_left_over(&mut self, path: &str) -> io::Result<()>
@@ -127,6 +134,8 @@ impl<H: Host> GuardedHost for H {
 
     ghost around = { λ h. H.around h };
 
+    ghost left_overs = { λ h. H.left_overs h };
+
     fn run_at(&self, path: &str, offset: u64, most: u64) -> (u64, bool) {
         Host::run_at(self, path, offset, most)
     }
@@ -183,6 +192,8 @@ impl<'a, G: GuardedHost> Host for Confined<'a, G> {
     type Existing = G::Existing;
 
     ghost around = { λ c. G.around c.host };
+
+    ghost left_overs = { λ c. G.left_overs c.host };
 
     fn run_at(&self, path: &str, offset: u64, most: u64) -> (u64, bool) {
         if !self.reach.reads(path) {

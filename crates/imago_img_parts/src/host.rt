@@ -1,6 +1,6 @@
 // SPDX-License-Identifier: MIT
 //! Where the commands find files, and make them.
-ghost use Rattle.std.specs.Prelude.{◌≡◌, ◌<◌, ◌≤◌, [], Option, Some, true, false};
+ghost use Rattle.std.specs.Prelude.{◌≡◌, ℕ, ◌<◌, ◌≤◌, [], List, Option, Some, None, true, false};
 ghost use Rattle.std.specs.Prelude.{OnOk, OnErr, IfOk, IfSome, length, option_map, replicate};
 ghost use Rattle.std.specs.Prelude.{string_bytes};
 ghost use Rattle.imago_plan.specs.PieceBytes.{bytes_at};
@@ -38,6 +38,8 @@ pub struct LeftOver {
 /// when it is finished. A copy that is killed leaves the unfinished file. A file that is there may
 /// be written over instead: then its bytes change one after the other.
 pub trait Host: Files {
+    ghost use Rattle.imago_images.specs.declared.files.FileStatus.{FileStatus};
+
     /// A file that is being made. What its path leads to, and its bytes, are promised once it is
     /// finished. It can't be dropped: it is either finished or abandoned.
     type Target: Target;
@@ -48,6 +50,9 @@ pub trait Host: Files {
 
     /// What is told of the files beside their bytes, where an implementation says it.
     ghost around: { Self → Option Around };
+
+    /// What the unfinished file of each path is by itself, where an implementation says it.
+    ghost left_overs: { Self → Option (List ℕ → FileStatus) } = { λ _. None };
 
     /// How many bytes from the offset on, at least one and at most that many, come before the next
     /// hole of the file, and `true`; or how many are in one hole, and `false`.
@@ -71,7 +76,9 @@ pub trait Host: Files {
     /// The unfinished file that a copy to a path left when it was killed, if there is one.
     fn left_over(&self, path: &str) -> io::Result<Option<LeftOver>>
         ensures beside { IfOk result (λ found. IfSome found (λ left. IfSome (around self.now)
-            (λ a. string_bytes left.path ≡ a.beside path.now))) };
+            (λ a. string_bytes left.path ≡ a.beside path.now))) }
+        ensures told { IfOk result (λ found. IfSome found (λ left. IfSome (left_overs self.now)
+            (λ left_of. left.status ≡ left_of path.now))) };
 
     /// Removes the unfinished file that a copy to a path left. It is never emptied, since it may be
     /// a second name of a finished file. Refused, it is still there.

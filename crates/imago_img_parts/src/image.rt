@@ -7,7 +7,10 @@ ghost use Rattle.imago_access.specs.Target.{target};
 ghost use Rattle.imago_copy.specs.LayerRuns.{image_of, at_of, AreReady, AreLayerRuns};
 ghost use Rattle.imago_images.specs.Formats.{IsFormatBy};
 ghost use Rattle.imago_images.specs.Images.{IsImageIn};
+ghost use Rattle.imago_images.specs.ImageFiles.{HasFiles};
+ghost use Rattle.imago_images.specs.Way.{identity};
 ghost use Rattle.imago_images.specs.declared.opening.OtherFiles.TheVariants as Others;
+ghost use Rattle.imago_img_parts.specs.LeftOvers.{is_one_file};
 ghost use Rattle.imago_img_parts.specs.Vetted.{IsVetted, IsHostRefusal, IsHostFailure};
 
 use crate::failure::{ClusterFault, Failure, OpenError, Reason};
@@ -45,6 +48,9 @@ pub fn opened<'a, H: Host>(
     ensures image { IfOk result (λ r. IfSome (H.contents host.now)
         (λ files. IsImageIn ⟦<AnyDriver<PathStorage<'a, H>> as FormatDriverInstance>⟧.view
         how files path.now r.0 r.1)) }
+    ensures files { IfOk result (λ r. IfSome (H.contents host.now)
+        (λ files. HasFiles ⟦<AnyDriver<PathStorage<'a, H>> as FormatDriverInstance>⟧.view
+        how.accepted files path.now r.0 r.1)) }
     ensures vetted { how.other_files ≡ Others.None → IfErr result
         (λ failure. IfSome (H.contents host.now) (λ files. IsVetted how path.now (files path.now)
         → IsHostFailure failure)) }
@@ -179,7 +185,9 @@ fn chain_has<D: FileDriver>(image: &FormatAccess<D>, file: FileStatus) -> bool {
 }
 
 /// Whether two are one file.
-fn is_same_file(one: FileStatus, other: FileStatus) -> bool {
+pub(crate) fn is_same_file(one: FileStatus, other: FileStatus) -> bool
+    ensures { result ≡ is_one_file (identity one) (identity other) }
+{
     one.device == other.device && one.inode == other.inode
 }
 

@@ -45,6 +45,7 @@ mod snapshots;
 mod streams;
 pub mod system;
 mod text;
+mod unfinished;
 mod vet;
 mod vet_qcow2;
 mod vet_seen;

@@ -4,6 +4,7 @@ ghost use Rattle.std.specs.Prelude.{◌≡◌, ℕ, [], OnOk, OnErr, IfOk, IfSom
 ghost use Rattle.imago_qcow2_new.specs.Layout.{IsLayoutOf, file_length};
 ghost use Rattle.imago_qcow2_new.specs.Names.{HasNoNames};
 ghost use Rattle.imago_img_parts.specs.Files.{IsSoOnceCleared};
+ghost use Rattle.imago_img_parts.specs.LeftOvers.{IsApart};
 ghost use Rattle.imago_img_parts.specs.NewFiles.{IsCopyBy, IsFilledWith, IsNewlyMade, IsQcow2Copy};
 
 use crate::convert::{clear, end, test_place};
@@ -53,11 +54,13 @@ pub fn convert_to_qcow2<H: Host, E: Write>(
     warnings: &mut E,
 ) -> Result<(), Failure>
     ensures converted { OnOk result (IsSoOnceCleared making.replace (H.contents host.old)
-        (H.around host.old) to.now (λ files around. IsNewlyMade
-        (IsQcow2Copy how from.now new.format) making.replace files (H.contents host.new) around
-        (H.around host.new) to.now)) }
+        (H.around host.old) to.now (IsApart how (H.contents host.old) (H.statuses host.old)
+        (H.left_overs host.old) from.now to.now) (λ files around. IsNewlyMade
+        (IsQcow2Copy how from.now new.format) making.replace
+        files (H.contents host.new) around (H.around host.new) to.now)) }
     ensures refused { OnErr result (IsSoOnceCleared making.replace (H.contents host.old)
-        (H.around host.old) to.now
+        (H.around host.old) to.now (IsApart how (H.contents host.old) (H.statuses host.old)
+        (H.left_overs host.old) from.now to.now)
         (λ files around. (H.contents host.new ≡ files) × (H.around host.new ≡ around))) }
 {
     clear(host, from, to, how, making.replace)?;

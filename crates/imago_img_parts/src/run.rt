@@ -104,7 +104,8 @@ pub fn run<'w, G: GuardedHost, W: Write, E: Write>(
     requires makes { (command : Command) → Asks (map string_bytes words.now) command
         → AreAmong (is_made (reach_by command)) G.may_make }
     ensures status { IsStatus result }
-    ensures done { IsRun (map string_bytes words.entry.now) (G.contents host.old.host)
+    ensures done { IsRun (map string_bytes words.entry.now) (G.statuses host.old.host)
+        (G.left_overs host.old.host) (G.contents host.old.host)
         (G.contents host.new.host) (G.around host.old.host) (G.around host.new.host) result }
 {
     match Command::read(host.alloc(), words) {
@@ -164,7 +165,8 @@ pub fn perform<H: Host, W: Write, E: Write>(
     errors: &mut E,
 ) -> u8
     ensures status { refused ≤ 2 → IsStatus result }
-    ensures performed { IsPerformed refused command.entry (H.contents host.old)
+    ensures performed { IsPerformed refused command.entry (H.statuses host.old)
+        (H.left_overs host.old) (H.contents host.old)
         (H.contents host.new) (H.around host.old) (H.around host.new) result }
 {
     match command {
@@ -194,8 +196,8 @@ fn tell<E: Write>(refused: Failure, errors: &mut E, status: u8) -> u8
 fn convert<H: Host, E: Write>(host: &mut H, asked: Convert<'_>, errors: &mut E) -> u8
     ensures most { result ≤ 1 }
     ensures converted { IsConvertedBy (how_by asked.entry.source_format asked.entry.opening)
-        asked.entry (H.contents host.old) (H.contents host.new) (H.around host.old)
-        (H.around host.new) result }
+        asked.entry (H.statuses host.old) (H.left_overs host.old) (H.contents host.old)
+        (H.contents host.new) (H.around host.old) (H.around host.new) result }
 {
     match convert_warned(host, asked, errors) {
         Ok(()) => 0,
@@ -210,11 +212,13 @@ fn convert_warned<H: Host, E: Write>(
     warnings: &mut E,
 ) -> Result<(), Failure>
     ensures converted { OnOk result (IsConvertedBy
-        (how_by asked.entry.source_format asked.entry.opening) asked.entry (H.contents host.old)
-        (H.contents host.new) (H.around host.old) (H.around host.new) 0) }
+        (how_by asked.entry.source_format asked.entry.opening) asked.entry (H.statuses host.old)
+        (H.left_overs host.old) (H.contents host.old) (H.contents host.new) (H.around host.old)
+        (H.around host.new) 0) }
     ensures refused { OnErr result (IsConvertedBy
-        (how_by asked.entry.source_format asked.entry.opening) asked.entry (H.contents host.old)
-        (H.contents host.new) (H.around host.old) (H.around host.new) 1) }
+        (how_by asked.entry.source_format asked.entry.opening) asked.entry (H.statuses host.old)
+        (H.left_overs host.old) (H.contents host.old) (H.contents host.new) (H.around host.old)
+        (H.around host.new) 1) }
 {
     if asked.quiet {
         return convert_as_asked(host, asked, &mut io::sink());
@@ -229,11 +233,13 @@ fn convert_as_asked<H: Host, E: Write>(
     warnings: &mut E,
 ) -> Result<(), Failure>
     ensures converted { OnOk result (IsConvertedBy
-        (how_by asked.entry.source_format asked.entry.opening) asked.entry (H.contents host.old)
-        (H.contents host.new) (H.around host.old) (H.around host.new) 0) }
+        (how_by asked.entry.source_format asked.entry.opening) asked.entry (H.statuses host.old)
+        (H.left_overs host.old) (H.contents host.old) (H.contents host.new) (H.around host.old)
+        (H.around host.new) 0) }
     ensures refused { OnErr result (IsConvertedBy
-        (how_by asked.entry.source_format asked.entry.opening) asked.entry (H.contents host.old)
-        (H.contents host.new) (H.around host.old) (H.around host.new) 1) }
+        (how_by asked.entry.source_format asked.entry.opening) asked.entry (H.statuses host.old)
+        (H.left_overs host.old) (H.contents host.old) (H.contents host.new) (H.around host.old)
+        (H.around host.new) 1) }
 {
     let how = how_to_open(asked.source_format, asked.opening);
     let show = asked.progress && !asked.quiet;
@@ -251,10 +257,12 @@ fn convert_newly<H: Host, E: Write>(
     show: bool,
     warnings: &mut E,
 ) -> Result<(), Failure>
-    ensures converted { OnOk result (IsNewlyConverted how asked.entry (H.contents host.old)
-        (H.contents host.new) (H.around host.old) (H.around host.new) 0) }
-    ensures refused { OnErr result (IsNewlyConverted how asked.entry (H.contents host.old)
-        (H.contents host.new) (H.around host.old) (H.around host.new) 1) }
+    ensures converted { OnOk result (IsNewlyConverted how asked.entry (H.statuses host.old)
+        (H.left_overs host.old) (H.contents host.old) (H.contents host.new) (H.around host.old)
+        (H.around host.new) 0) }
+    ensures refused { OnErr result (IsNewlyConverted how asked.entry (H.statuses host.old)
+        (H.left_overs host.old) (H.contents host.old) (H.contents host.new) (H.around host.old)
+        (H.around host.new) 1) }
 {
     let (from, to) = (asked.source, asked.target);
     let making = Making {
@@ -283,8 +291,9 @@ fn qcow2_of(settings: Settings, sparse: bool) -> NewQcow2
 /// Makes a new image, and gives the status.
 fn create<H: Host, E: Write>(host: &mut H, asked: Create<'_>, errors: &mut E) -> u8
     ensures most { result ≤ 1 }
-    ensures created { IsCreated asked.entry (H.contents host.old) (H.contents host.new)
-        (H.around host.old) (H.around host.new) result }
+    ensures created { IsCreated asked.entry (H.statuses host.old) (H.left_overs host.old)
+        (H.contents host.old) (H.contents host.new) (H.around host.old) (H.around host.new)
+        result }
 {
     match create_as_asked(host, asked) {
         Ok(()) => 0,
@@ -294,10 +303,12 @@ fn create<H: Host, E: Write>(host: &mut H, asked: Create<'_>, errors: &mut E) ->
 
 /// Makes a new image.
 fn create_as_asked<H: Host>(host: &mut H, asked: Create<'_>) -> Result<(), Failure>
-    ensures created { OnOk result (IsCreated asked.entry (H.contents host.old)
-        (H.contents host.new) (H.around host.old) (H.around host.new) 0) }
-    ensures refused { OnErr result (IsCreated asked.entry (H.contents host.old)
-        (H.contents host.new) (H.around host.old) (H.around host.new) 1) }
+    ensures created { OnOk result (IsCreated asked.entry (H.statuses host.old)
+        (H.left_overs host.old) (H.contents host.old) (H.contents host.new) (H.around host.old)
+        (H.around host.new) 0) }
+    ensures refused { OnErr result (IsCreated asked.entry (H.statuses host.old)
+        (H.left_overs host.old) (H.contents host.old) (H.contents host.new) (H.around host.old)
+        (H.around host.new) 1) }
 {
     create_image(host, asked)
 }

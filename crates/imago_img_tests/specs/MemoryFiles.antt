@@ -38,6 +38,7 @@ kind_by (Of.Torn at) = Kind.Regular
 kind_by Of.Device = Kind.BlockDevice
 kind_by Of.Folder = Kind.Other
 kind_by (Of.Link path) = Kind.Regular
+kind_by Of.Barred = Kind.Regular
 
 -- what a file is
 abbrev pub status_by : MemoryFile → FileStatus

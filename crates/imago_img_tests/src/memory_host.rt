@@ -30,6 +30,8 @@ pub enum Nature {
     Folder,
     /// A link to a file with that path.
     Link(&'static str),
+    /// A link that can't be followed.
+    Barred,
 }
 
 impl Nature {
@@ -91,7 +93,8 @@ pub struct MemoryTarget {
 pub struct MemoryExisting;
 
 impl MemoryHost {
-    ghost use Rattle.imago_img_tests.specs.MemoryFiles.{file_bytes, first_of, has_file};
+    ghost use Rattle.imago_img_tests.specs.MemoryFiles.{file_bytes, file_status, first_of};
+    ghost use Rattle.imago_img_tests.specs.MemoryFiles.{has_file};
 
     /// No files. Something may be put into a new one that many times, and then it gets its path or
     /// doesn't.
@@ -193,6 +196,19 @@ impl MemoryHost {
         }
         Err(io::Error::from(ErrorKind::NotFound))
     }
+
+    /// What the first file of that path is by itself.
+    fn status_by_itself(&self, path: &str) -> io::Result<FileStatus>
+        ensures { IfOk result (λ s. s ≡ file_status self.now.files.items path.now) }
+    {
+        let file = self.file(path)?;
+        Ok(FileStatus {
+            kind: file.nature.kind(),
+            length: file.bytes.len() as u64,
+            device: 1,
+            inode: file.inode,
+        })
+    }
 }
 
 /// Whether so many bytes from the offset on of such a file can't be read.
@@ -293,13 +309,10 @@ impl Files for MemoryHost {
 
     fn status(&self, path: &str) -> io::Result<FileStatus> {
         self.asked.note(Call::Look, path);
-        let file = self.file(path)?;
-        Ok(FileStatus {
-            kind: file.nature.kind(),
-            length: file.bytes.len() as u64,
-            device: 1,
-            inode: file.inode,
-        })
+        if matches!(self.file(path)?.nature, Nature::Barred) {
+            return Err(io::Error::from(ErrorKind::PermissionDenied));
+        }
+        self.status_by_itself(path)
     }
 
     fn read_at(&self, path: &str, buf: &mut [u8], offset: u64) -> io::Result<()> {
@@ -345,7 +358,8 @@ impl WritableFiles for MemoryHost {
 }
 
 impl Host for MemoryHost {
-    ghost use Rattle.imago_img_tests.specs.MemoryFiles.{has_file, unfinished_path};
+    ghost use Rattle.imago_img_tests.specs.MemoryFiles.{file_status, has_file};
+    ghost use Rattle.imago_img_tests.specs.MemoryFiles.{unfinished_path};
 
     type Target = MemoryTarget;
 
@@ -356,6 +370,8 @@ impl Host for MemoryHost {
       unfinished = h.unfinished;
       beside = unfinished_path;
     }) };
+
+    ghost left_overs = { λ h. Some (λ path. file_status h.files.items (unfinished_path path)) };
 
     fn run_at(&self, path: &str, offset: u64, most: u64) -> (u64, bool) {
         self.asked.note(Call::Look, path);
@@ -383,7 +399,8 @@ impl Host for MemoryHost {
 
     fn left_over(&self, path: &str) -> io::Result<Option<LeftOver>> {
         let path = unfinished_path(self.alloc, path)?;
-        match self.status(&path) {
+        self.asked.note(Call::Look, &path);
+        match self.status_by_itself(&path) {
             Ok(status) => Ok(Some(LeftOver { path, status })),
             Err(_) => Ok(None),
         }

@@ -396,7 +396,13 @@ fn images_that_arent_opened_are_told(rt: HostRuntime) {
     let line = "info --json -f qcow2 a";
     check_changed(&rt, rt.alloc(), SNAPSHOTS, line, (0, TOLD_JSON, ""));
     check_changed(&rt, rt.alloc(), DATA_NAMES, line, (0, TOLD_DATA, ""));
-    check_changed(&rt, rt.alloc(), DATA_NAME_BYTES, line, (0, TOLD_DATA_BYTES, ""));
+    check_changed(
+        &rt,
+        rt.alloc(),
+        DATA_NAME_BYTES,
+        line,
+        (0, TOLD_DATA_BYTES, ""),
+    );
     let refused = "imago-img: \"a\": the header says external data file, which isn't supported\n";
     let line = "info --alone -f qcow2 a";
     check_changed(&rt, rt.alloc(), DATA_NAMES, line, (1, "", refused));

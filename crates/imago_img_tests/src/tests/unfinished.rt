@@ -88,6 +88,25 @@ fn an_unfinished_file_is_named_or_removed(rt: HostRuntime) {
     }
 }
 
+/// A link that can't be followed may lead to a file of the image, so it stays.
+#[test]
+fn what_cannot_be_looked_at_is_not_removed(rt: HostRuntime) {
+    let alloc = rt.alloc();
+    let mut host = MemoryHost::new(alloc, 9, true);
+    let added = host.add("disk.raw", b"disk", Nature::Plain);
+    let left = host.add(LEFT, b"", Nature::Barred);
+    assert!(&rt; added.is_ok() && left.is_ok());
+    let refused = "imago-img: \"out.raw.imago-img-unfinished\": permission denied\n";
+    for words in [
+        "convert --force disk.raw out.raw",
+        "create --force -f qcow2 -b disk.raw -F raw out.raw",
+    ] {
+        check_line(&rt, alloc, &mut host, words, (1, "", refused));
+        assert!(&rt; host.bytes(LEFT).is_some(), "{words}");
+        assert!(&rt; host.bytes("out.raw").is_none(), "{words}");
+    }
+}
+
 /// A file that isn't finished has no path.
 fn check_interrupted(rt: &impl Abort, alloc: Global) {
     let mut host = MemoryHost::new(alloc, 9, true);

@@ -1,5 +1,6 @@
 -- SPDX-License-Identifier: MIT
 use Rattle.imago_img_parts.specs.Disks.{IsConverted}
+use Rattle.imago_img_parts.specs.LeftOvers.{IsApart}
 use Rattle.imago_img_parts.proofs.Cleared.{err_then, ok_then}
 use Rattle.imago_img_parts.proofs.convert.convert_image.Goals as goal
 
@@ -8,7 +9,10 @@ returns-clause-converted g c =
     let contents = g.H.Files.contents in
     let around = g.H.Host.around in
     let how = c.args.how in
-    ok_then (contents c.args.host.now) (around c.args.host.now) c.args.to.now c.convert_beside.result
+    let host = c.args.host.now in
+    ok_then (contents host) (around host) c.args.to.now
+    (IsApart how (contents host) (g.H.Files.statuses host) (g.H.Host.left_overs host) c.args.from.now c.args.to.now)
+    c.convert_beside.result
     c.args.making.replace
     (λ files left. IsConverted how c.args.making.replace files
     (contents c.convert_beside.new.host) left (around c.convert_beside.new.host) c.args.from.now c.args.to.now)
@@ -18,7 +22,10 @@ pub returns-clause-refused : goal.returns-clause-refused
 returns-clause-refused g c =
     let contents = g.H.Files.contents in
     let around = g.H.Host.around in
-    err_then (contents c.args.host.now) (around c.args.host.now) c.args.to.now c.convert_beside.result
+    let host = c.args.host.now in
+    err_then (contents host) (around host) c.args.to.now
+    (IsApart c.args.how (contents host) (g.H.Files.statuses host) (g.H.Host.left_overs host) c.args.from.now c.args.to.now)
+    c.convert_beside.result
     c.args.making.replace (contents c.convert_beside.new.host) (around c.convert_beside.new.host)
     (contents c.clear.new.host) (around c.clear.new.host) c.clear.ensures c.convert_beside.ensures.same
     c.convert_beside.ensures.refused

@@ -1,5 +1,6 @@
 -- SPDX-License-Identifier: MIT
 use Rattle.imago_img_parts.specs.NewFiles.{IsNewImage, IsNewlyMade}
+use Rattle.imago_img_parts.specs.LeftOvers.{IsApartBelow}
 use Rattle.imago_img_parts.proofs.Cleared.{err_then, ok_then}
 use Rattle.imago_img_parts.proofs.create.create_image.Goals as goal
 
@@ -8,7 +9,10 @@ returns-clause-created g c =
     let contents = g.H.Files.contents in
     let around = g.H.Host.around in
     let asked = c.args.asked in
-    ok_then (contents c.args.host.now) (around c.args.host.now) asked.target.now c.create_beside.result asked.force
+    let host = c.args.host.now in
+    ok_then (contents host) (around host) asked.target.now
+    (IsApartBelow asked asked.backing (contents host) (g.H.Files.statuses host) (g.H.Host.left_overs host))
+    c.create_beside.result asked.force
     (λ files left. IsNewlyMade (IsNewImage asked) asked.force files (contents c.create_beside.new.host) left
     (around c.create_beside.new.host) asked.target.now)
     (contents c.clear.new.host) (around c.clear.new.host) c.clear.ensures c.create_beside.ensures.created
@@ -18,7 +22,10 @@ returns-clause-refused g c =
     let contents = g.H.Files.contents in
     let around = g.H.Host.around in
     let asked = c.args.asked in
-    err_then (contents c.args.host.now) (around c.args.host.now) asked.target.now c.create_beside.result asked.force
+    let host = c.args.host.now in
+    err_then (contents host) (around host) asked.target.now
+    (IsApartBelow asked asked.backing (contents host) (g.H.Files.statuses host) (g.H.Host.left_overs host))
+    c.create_beside.result asked.force
     (contents c.create_beside.new.host) (around c.create_beside.new.host)
     (contents c.clear.new.host) (around c.clear.new.host) c.clear.ensures c.create_beside.ensures.same
     c.create_beside.ensures.refused

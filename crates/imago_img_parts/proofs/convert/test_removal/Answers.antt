@@ -1,0 +1,16 @@
+-- SPDX-License-Identifier: MIT
+use Rattle.imago_any_driver.specs.AnyDriver.{view_over}
+use Rattle.imago_file.specs.StorageParts.{faults_of}
+use Rattle.imago_images.proofs.PathSteps.{features_of, bytes_of}
+use Rattle.imago_images.specs.Way.{identity}
+use Rattle.imago_img_parts.proofs.Elsewhere.{no_source}
+use Rattle.imago_img_parts.proofs.convert.test_removal.Goals as goal
+
+pub returns : goal.returns
+returns g c =
+    let contents = g.H.Files.contents in
+    let opened = g.H.File.HostFile.contents in
+    no_source (view_over (features_of contents opened) faults_of (bytes_of contents opened)) c.args.how
+    (contents c.args.host.now) (g.H.Files.statuses c.args.host.now) c.args.from.now
+    (identity c.args.left.now.status) c.in_ok-image.field-0-0 c.in_ok-image.image c.test_apart.result
+    c.in_ok-image.ensures.format c.in_ok-image.ensures.files c.test_apart.ensures

@@ -1,0 +1,18 @@
+-- SPDX-License-Identifier: MIT
+use Rattle.std.proofs.Common.{◌∙◌, Option, OnOk, subst, sym}
+use Rattle.imago_images.specs.Way.{identity}
+use Rattle.imago_words.specs.declared.command.Backing.{Backing}
+use Rattle.imago_img_parts.specs.LeftOvers.{IsNoSourceBelow}
+use Rattle.imago_img_parts.proofs.Elsewhere.{no_source_below}
+use Rattle.imago_img_parts.proofs.create.test_removal.Goals as goal
+
+pub returns : goal.returns
+returns g c =
+    let known = g.H.Files.contents c.args.host.now in
+    let statuses = g.H.Files.statuses c.args.host.now in
+    let asked = c.args.asked in
+    let tested = c.test_removal_above.result in
+    let file = identity c.args.left.now.status in
+    subst (λ (o : Option Backing). OnOk tested (IsNoSourceBelow asked o known statuses file)) (sym c.in-Some.is)
+    (no_source_below tested asked c.in-Some.below c.deref.result.now c.how_to_open-how.result known statuses file
+    (c.deref.ensures ∙ c.in_ok-path.ensures) c.how_to_open-how.ensures c.test_removal_above.ensures)

@@ -1,0 +1,77 @@
+-- Which unfinished files aren't removed: those that are files of the image that is read.
+-- SPDX-License-Identifier: MIT
+use Rattle.std.specs.Prelude.{◌≡◌, ℕ, ◌<◌, ◌&&◌, Bool, false, List, Option, Some, None, IfSome, nat_eq}
+use Rattle.imago_access.specs.declared.access.FormatAccess.{FormatAccess, FormatAccess'}
+use Rattle.imago_access.specs.declared.access.FormatAccess.{Held-FormatAccess-backing, None', Some'}
+use Rattle.imago_drivers.specs.View.{Stores, View}
+use Rattle.imago_file.specs.Names.{path_beside}
+use Rattle.imago_images.specs.declared.files.FileStatus.{FileStatus}
+use Rattle.imago_images.specs.declared.opening.Opening.{Opening}
+use Rattle.imago_images.specs.ImageFiles.{IsOutsideImage}
+use Rattle.imago_images.specs.Way.{identity}
+use Rattle.imago_words.specs.declared.command.Backing.{Backing}
+use Rattle.imago_words.specs.declared.command.Create.{Create}
+use Rattle.imago_img_parts.specs.Openings.{how_by}
+
+-- whether two files are one, by their devices and numbers
+abbrev pub is_one_file : ℕ × ℕ → ℕ × ℕ → Bool
+is_one_file file other = nat_eq file.0 other.0 && nat_eq file.1 other.1
+
+-- no storage of a driver has the path of a file as its name that is that one
+abbrev pub AreElsewhere : Stores → (List ℕ → FileStatus) → ℕ × ℕ → Type 0
+AreElsewhere stores status_of file = (i : ℕ) → i < stores.count
+    → IfSome (stores.features i).filename
+    (λ path. is_one_file (identity (status_of path)) file ≡ false)
+
+abbrev mutual
+  -- no storage of any layer of an image has
+  pub IsElsewhere :
+      {D St : Type 0} → (D → View St) → (List ℕ → FileStatus) → ℕ × ℕ → FormatAccess D → Type 0
+  IsElsewhere view status_of file (FormatAccess' inner below) =
+      AreElsewhere (view inner).stores status_of file × IsElsewhereBelow view status_of file below
+
+  pub IsElsewhereBelow :
+      {D St : Type 0} → (D → View St) → (List ℕ → FileStatus) → ℕ × ℕ
+      → Held-FormatAccess-backing D → Type 0
+  IsElsewhereBelow view status_of file None' = Unit {0}
+  IsElsewhereBelow view status_of file (Some' k x) = IsElsewhere view status_of file x
+
+-- the same of an image, if there is one
+abbrev pub IsElsewhereIn :
+    {D St : Type 0} → (D → View St) → (List ℕ → FileStatus) → ℕ × ℕ → Option (FormatAccess D)
+    → Type 0
+IsElsewhereIn view status_of file None = Unit {0}
+IsElsewhereIn view status_of file (Some x) = IsElsewhere view status_of file x
+
+-- A file is none of those of the image of a path, by its device and number, where it is told what
+-- files have, and what they are.
+abbrev pub IsNoSource :
+    Opening → Option (List ℕ → List ℕ) → Option (List ℕ → FileStatus) → List ℕ → ℕ × ℕ → Type 0
+IsNoSource how known statuses from file =
+    IfSome known (λ files. IfSome statuses (λ status_of.
+    IsOutsideImage how.accepted how.format files status_of from file))
+
+-- The unfinished file of a path is none of the files of the image of another path, where it is told
+-- what files have, what they are, and what the unfinished ones are.
+abbrev pub IsApart :
+    Opening → Option (List ℕ → List ℕ) → Option (List ℕ → FileStatus)
+    → Option (List ℕ → FileStatus) → List ℕ → List ℕ → Type 0
+IsApart how known statuses left_overs from to =
+    IfSome left_overs (λ left_of. IsNoSource how known statuses from (identity (left_of to)))
+
+-- A file is none of those of the image of the layer below a new one, if it has one.
+abbrev pub IsNoSourceBelow :
+    Create → Option Backing → Option (List ℕ → List ℕ) → Option (List ℕ → FileStatus) → ℕ × ℕ
+    → Type 0
+IsNoSourceBelow c None known statuses file = Unit {0}
+IsNoSourceBelow c (Some b) known statuses file =
+    IsNoSource (how_by (Some b.format) c.opening) known statuses
+    (path_beside c.target.now b.file.now) file
+
+-- the unfinished file of a new image's path is none of them
+abbrev pub IsApartBelow :
+    Create → Option Backing → Option (List ℕ → List ℕ) → Option (List ℕ → FileStatus)
+    → Option (List ℕ → FileStatus) → Type 0
+IsApartBelow c below known statuses left_overs =
+    IfSome left_overs (λ left_of. IsNoSourceBelow c below known statuses
+    (identity (left_of c.target.now)))
