@@ -216,7 +216,7 @@ fn measured<'a>(words: &Words<'a>) -> Result<Measured<'a>, Fault<'a>>
         return Ok(Measured::File(words.one_file()?));
     };
     let Some(size) = size_named(given.value) else {
-        return Err(Fault::Value(given.row, given.value));
+        return Err(Fault::Value(given.row.key, given.value));
     };
     words.no_file()?;
     Ok(Measured::Size(size))
@@ -286,7 +286,7 @@ fn format<'a>(words: &Words<'a>, key: &str) -> Result<Option<Format>, Fault<'a>>
     };
     match Format::named(given.value) {
         Some(format) => Ok(Some(format)),
-        None => Err(Fault::Value(given.row, given.value)),
+        None => Err(Fault::Value(given.row.key, given.value)),
     }
 }
 
@@ -319,7 +319,7 @@ fn sparse<'a>(words: &Words<'a>) -> Result<bool, Fault<'a>>
     match size_named(given.value) {
         Some(0) => Ok(false),
         Some(4096) => Ok(true),
-        _ => Err(Fault::Value(given.row, given.value)),
+        _ => Err(Fault::Value(given.row.key, given.value)),
     }
 }
 
@@ -332,7 +332,7 @@ fn output<'a>(words: &Words<'a>) -> Result<Output, Fault<'a>>
         None => Output::Human,
         Some(given) => match Output::named(given.value) {
             Some(output) => output,
-            None => return Err(Fault::Value(given.row, given.value)),
+            None => return Err(Fault::Value(given.row.key, given.value)),
         },
     };
     if words.has("json") {
@@ -352,6 +352,6 @@ fn size<'a>(words: &Words<'a>, key: &str) -> Result<Option<u64>, Fault<'a>>
     };
     match size_named(given.value) {
         Some(size) => Ok(Some(size)),
-        None => Err(Fault::Value(given.row, given.value)),
+        None => Err(Fault::Value(given.row.key, given.value)),
     }
 }

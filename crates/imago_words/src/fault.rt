@@ -3,7 +3,6 @@
 ghost use Rattle.std.specs.Prelude.{◌≡◌};
 ghost use Rattle.imago_words.specs.declared.fault.Fault.TheVariants.{Memory};
 
-use crate::row::Row;
 use std::alloc::{AllocError, AllocFailed};
 
 /// Why the words of a command line are no command.
@@ -27,12 +26,12 @@ pub enum Fault<'a> {
         /// The name, without its dashes.
         name: &'a str,
     },
-    /// The last word is an option, and its value is missing.
-    NoValue(Row),
-    /// An option that takes no value was given one.
-    NoneTaken(Row),
-    /// An option doesn't take the value that it was given.
-    Value(Row, &'a str),
+    /// The last word is an option, and its value is missing: the option's key.
+    NoValue(&'static str),
+    /// The option of that key takes no value, and was given one.
+    NoneTaken(&'static str),
+    /// The option of that key doesn't take the value that it was given.
+    Value(&'static str, &'a str),
     /// `-o` doesn't take a setting, or the value of it.
     Setting(&'a str),
     /// Options don't go together, as is said here.

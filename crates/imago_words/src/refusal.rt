@@ -62,7 +62,7 @@ impl Display for Refusal<'_> {
             Fault::Setting(setting) => fmt_setting(f, setting, self.hint)?,
             Fault::Unfit(why) => f.write_str(why)?,
             Fault::NoSize(word) => write!(f, "{word:?} isn't a size such as 64M")?,
-            _ => fmt_value(f, self.fault)?,
+            _ => fmt_value(f, self.fault, &page)?,
         }
         write!(f, "; see imago-img {} --help", page.name)
     }
@@ -113,16 +113,22 @@ fn fmt_option<W: fmt::Write>(
 }
 
 /// Tells of an option's value.
-fn fmt_value<W: fmt::Write>(f: &mut fmt::Formatter<W>, fault: Fault<'_>) -> fmt::Result {
+fn fmt_value<W: fmt::Write>(
+    f: &mut fmt::Formatter<W>,
+    fault: Fault<'_>,
+    page: &Page,
+) -> fmt::Result {
+    let (Fault::NoValue(key) | Fault::NoneTaken(key) | Fault::Value(key, _)) = fault else {
+        return Ok(());
+    };
+    let Some(row) = page.rows.iter().find(|row| row.key == key) else {
+        return Ok(());
+    };
+    let name = Name(*row);
     match fault {
-        Fault::NoValue(row) => {
-            write!(f, "{} takes {}, which is missing", Name(row), row.taken())
-        }
-        Fault::Value(row, value) => {
-            write!(f, "{} takes {}, not {value:?}", Name(row), row.taken())
-        }
-        Fault::NoneTaken(row) => write!(f, "{} takes no value", Name(row)),
-        _ => Ok(()),
+        Fault::NoneTaken(_) => write!(f, "{name} takes no value"),
+        Fault::Value(_, value) => write!(f, "{name} takes {}, not {value:?}", row.taken()),
+        _ => write!(f, "{name} takes {}, which is missing", row.taken()),
     }
 }
 

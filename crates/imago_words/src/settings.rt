@@ -202,7 +202,7 @@ fn format_of<'a>(words: &Words<'a>, given: Given<'a>) -> Result<NewFormat, Fault
     match given.value {
         "raw" => raw_format(words),
         "qcow2" => qcow2_format(words),
-        _ => Err(Fault::Value(given.row, given.value)),
+        _ => Err(Fault::Value(given.row.key, given.value)),
     }
 }
 

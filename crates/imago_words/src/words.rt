@@ -59,7 +59,7 @@ impl<'a> Words<'a> {
             rest = behind;
         }
         match read.waiting {
-            Some(row) => Err(Fault::NoValue(row)),
+            Some(row) => Err(Fault::NoValue(row.key)),
             None => Ok(read),
         }
     }
@@ -137,7 +137,7 @@ impl<'a> Words<'a> {
             return Err(Fault::UnknownName { word, name });
         };
         if !row.takes_value() {
-            return Err(Fault::NoneTaken(row));
+            return Err(Fault::NoneTaken(row.key));
         }
         self.give(row, value)
     }
