@@ -1,7 +1,7 @@
 // SPDX-License-Identifier: MIT
 //! Storages over files in memory, whole and torn.
 use super::set_up::{bytes, kind_of, owned};
-use crate::torn_file::TornFile;
+use super::torn_file::TornFile;
 use imago_file::file::FileStorage;
 use imago_file::host::{HostFile, MemoryFile};
 use imago_storage::error::Error;

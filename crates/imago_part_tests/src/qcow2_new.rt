@@ -5,7 +5,8 @@
 //! out the zeroes behind the last table, and has a table of the names of features behind a header
 //! of version 3. The largest disks are those for which it makes a file, too.
 
-use crate::target::Refusing;
+mod target;
+
 use imago_qcow2_new::format::{Backing, Format, FormatError, Gaps, Version};
 use imago_qcow2_new::layout::Layout;
 use imago_qcow2_new::scan::layout_of_size;
@@ -13,6 +14,7 @@ use imago_qcow2_new::write::{NewFileError, write_zeroes};
 use std::alloc::Global;
 use std::io::ErrorKind;
 use std::process::Abort;
+use target::Refusing;
 
 /// A new file of a disk of zeroes, and what it has.
 #[derive(Drop)]

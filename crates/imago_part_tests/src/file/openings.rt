@@ -1,8 +1,8 @@
 // SPDX-License-Identifier: MIT
 //! Files that are opened and created by options, and by a gate.
+use super::mute_file::{MuteFile, MuteFiles};
+use super::named_files::{NamedFiles, REFUSED};
 use super::set_up::{kind_of, owned};
-use crate::mute_file::{MuteFile, MuteFiles};
-use crate::named_files::{NamedFiles, REFUSED};
 use imago_drivers::gate::ImplicitOpenGate;
 use imago_file::file::FileStorage;
 use imago_file::gate::FileGate;

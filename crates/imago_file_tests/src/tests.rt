@@ -1,9 +1,0 @@
-// SPDX-License-Identifier: MIT
-//! What no clause says: each public function once, what is kept of a refusal, and what a refused
-//! write leaves of a file that tells nothing.
-//!
-//! Each test passes as well where one of its requests for memory is refused.
-mod names;
-mod openings;
-mod set_up;
-mod storages;
