@@ -312,11 +312,16 @@ fn read_again<H: Files>(host: &H, path: &str, cause: Error, most_tables: u64) ->
     let alloc = host.alloc();
     if cause == Error::Device {
         if let Ok(mut file) = look_at(host, path) {
-            let _is_opened = Qcow2::open_within(alloc, &mut file, most_tables).is_ok();
+            try_qcow2(alloc, &mut file, most_tables);
             return unread(alloc, path, &file, cause);
         }
     }
     OpenError::of_file(alloc, path, Reason::Image(cause))
+}
+
+/// Opens a qcow2 file and lets it go, so that its storage has what was answered to the reads.
+fn try_qcow2<S: Storage>(alloc: Global, file: &mut S, most_tables: u64) {
+    let _is_opened = Qcow2::open_within(alloc, file, most_tables).is_ok();
 }
 
 /// Why the driver of VMDK images didn't open a file's. Where a read was refused, its storage is

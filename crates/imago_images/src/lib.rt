@@ -6,14 +6,7 @@
 //! and gives an image that is read like any other:
 //!
 //! ```ignore
-//! let how = Opening {
-//!     format: None,
-//!     accepted: Accepted::EVERYTHING,
-//!     other_files: OtherFiles::InFolder,
-//!     tables: None,
-//!     longest: None,
-//! };
-//! let (format, image) = open_image(&host, "disk.qcow2", how)?;
+//! let (format, image) = open_image(&host, "disk.qcow2", Opening::new())?;
 //! let mut first = [0u8; 512];
 //! image.read(alloc, &mut first, 0)?; // the first 512 bytes of the disk
 //! ```
@@ -38,6 +31,7 @@ pub mod format;
 pub mod gate;
 pub mod guarded;
 pub mod layer;
+mod layered;
 pub mod longest;
 pub mod opener;
 pub mod opening;

@@ -32,9 +32,9 @@ use crate::files::{Files, WritableFiles};
 use crate::format::ImageFormat;
 use crate::gate::{FolderGate, Named};
 use crate::layer::{Below, Layer, format_of, open_layer, raw_layer};
+use crate::layered::{alone, over, size};
 use crate::longest::{refuse_larger, refuse_size};
 use crate::opening::Opening;
-use crate::over::{alone, over};
 use crate::way::Way;
 use imago_access::access::FormatAccess;
 use imago_any_driver::any::AnyDriver;
@@ -103,7 +103,7 @@ pub fn open_image<'a, H: Files>(
     let (file, format) = first_file(host, path, how, &mut way)?;
     let image = open_chain(host, path, file, format, how, &mut way, MOST)?;
     // The file may have changed meanwhile.
-    refuse_size(host.alloc(), path, image.size(), how.longest)?;
+    refuse_size(host.alloc(), path, size(&image), how.longest)?;
     Ok((format, image))
 }
 
@@ -177,7 +177,7 @@ pub fn open_image_to_write<H: WritableFiles>(
     let open = opened_file(host, path)?;
     let file = named_storage(alloc, path, open, true)?;
     let image = raw_image(alloc, path, file)?;
-    refuse_size(alloc, path, image.size(), how.longest)?;
+    refuse_size(alloc, path, size(&image), how.longest)?;
     Ok(image)
 }
 

@@ -6,7 +6,7 @@ use Rattle.imago_any_driver.specs.AnyDriver.{view_over}
 use Rattle.imago_images.proofs.NameSteps.{told_format}
 use Rattle.imago_images.specs.declared.layer.Below.{Below}
 use Rattle.imago_images.specs.Images.{IsLayerOf, IsImageIn}
-use Rattle.imago_images.specs.Layers.{tables_in, AreWithin}
+use Rattle.imago_images.specs.Layers.{AreWithin}
 use Rattle.imago_images.proofs.PathSteps.{features_of, bytes_of}
 use Rattle.imago_file.specs.StorageParts.{faults_of}
 use Rattle.imago_images.proofs.PartSteps.{path_in, format_in}
@@ -192,12 +192,12 @@ returns-in_err-over-clause-refused g t c =
 
 pub returns-in_default-clause-tables : goal.returns-in_default-clause-tables
 returns-in_default-clause-tables g t c =
-    subst (λ (ns : List ℕ). AreWithin c.args.how.tables ns) (sym (c.alone.ensures.tables tables_in))
+    subst (λ (ns : List ℕ). AreWithin c.args.how.tables ns) (sym c.alone.ensures.tables)
     (c.in_ok-driver.ensures.tables, tt)
 
 pub returns-clause-tables : goal.returns-clause-tables
 returns-clause-tables g t c =
-    subst (λ (ns : List ℕ). AreWithin c.args.how.tables ns) (sym (c.in_ok-over.ensures.tables tables_in))
+    subst (λ (ns : List ℕ). AreWithin c.args.how.tables ns) (sym c.in_ok-over.ensures.tables)
     (c.in_ok-driver.ensures.tables, c.in_ok-below.ensures.tables)
 
 pub returns-in_default-clause-files : goal.returns-in_default-clause-files
