@@ -1,7 +1,7 @@
 // SPDX-License-Identifier: MIT
 //! qcow2 images, alone and above others: what each command prints, and what is refused.
 
-use super::set_up::{Case, check_cases};
+use super::set_up::{Case, PartsRow, VERSION_2, check_cases, check_cases_over};
 
 /// A command line that makes no file, its status, its output, and what it tells as an error.
 type Row = (&'static str, u8, &'static str, &'static str);
@@ -213,8 +213,41 @@ static ROWS: [Row; 22] = [
     ),
 ];
 
+/// A file whose last byte is the first of a cluster, and one that ends where that cluster begins.
+static CUT: [PartsRow; 2] = [
+    (
+        "last.qcow2",
+        2049,
+        &[
+            (0, VERSION_2),
+            (23, b"\x09"),
+            (30, b"\x08"),
+            (39, b"\x01"),
+            (46, b"\x02"),
+            (512, b"\x80\0\0\0\0\0\x04"),
+            (1032, b"\x80\0\0\0\0\0\x08\0\x80\0\0\0\0\0\x06"),
+            (1536, b"1"),
+            (2048, b"2"),
+        ],
+    ),
+    (
+        "cut.qcow2",
+        2048,
+        &[
+            (0, VERSION_2),
+            (23, b"\x09"),
+            (30, b"\x08"),
+            (39, b"\x01"),
+            (46, b"\x02"),
+            (512, b"\x80\0\0\0\0\0\x04"),
+            (1032, b"\x80\0\0\0\0\0\x08\0\x80\0\0\0\0\0\x06"),
+            (1536, b"1"),
+        ],
+    ),
+];
+
 /// Disks that are written to raw files.
-static CONVERTED: [Case; 2] = [
+static CONVERTED: [Case; 4] = [
     Case {
         words: "convert one.qcow2 out.raw",
         appends: 99,
@@ -232,6 +265,26 @@ static CONVERTED: [Case; 2] = [
         output: "",
         errors: "",
         written: Some((2048, &[(0, b"t"), (512, b"m"), (1024, b"b")])),
+    },
+    // Bytes that lack in a file's last cluster aren't told, as a cluster may be cut.
+    Case {
+        words: "convert last.qcow2 out.raw",
+        appends: 99,
+        finishes: true,
+        status: 0,
+        output: "",
+        errors: "",
+        written: Some((2048, &[(512, b"2"), (1024, b"1")])),
+    },
+    Case {
+        words: "convert cut.qcow2 out.raw",
+        appends: 99,
+        finishes: true,
+        status: 0,
+        output: "",
+        errors: "imago-img: warning: \"cut.qcow2\": 2048 bytes, and the image uses it up to 2560: \
+            the missing bytes read as 0\n",
+        written: Some((2048, &[(1024, b"1")])),
     },
 ];
 
@@ -256,5 +309,5 @@ fn qcow2_images_are_told_and_refused(rt: HostRuntime) {
 
 #[test]
 fn qcow2_images_are_converted(rt: HostRuntime) {
-    check_cases(&rt, rt.alloc(), &CONVERTED);
+    check_cases_over(&rt, rt.alloc(), &CUT, &CONVERTED);
 }
