@@ -23,7 +23,9 @@ use Rattle.imago_images.specs.declared.format.ImageFormat.TheVariants.{Raw, Vmdk
 use Rattle.imago_images.specs.Images.{AreLayers, IsImageIn}
 use Rattle.imago_images.proofs.NameAlike.{raw_alike, image_alike, layers_said}
 use Rattle.imago_img_parts.specs.Files.{Around, begun, ended, with_file, IsMade, IsWhole}
-use Rattle.imago_img_parts.specs.Disks.{ShowsDisk, IsImage, HasSize, IsDiskAppended, IsConverted, NamesStandAlike, AreSaidAlike, ArePathsOfOne, AreCompared, is_left_out, opened_as}
+use Rattle.imago_disk.specs.Shows.{ShowsDisk, IsImage, HasSize}
+use Rattle.imago_disk.proofs.Shown.{shows_disk, disk_length}
+use Rattle.imago_img_parts.specs.Disks.{IsDiskAppended, IsConverted, NamesStandAlike, AreSaidAlike, ArePathsOfOne, AreCompared, is_left_out, opened_as}
 
 abbrev taken_or : ImageFormat → Result ImageFormat Signature → ImageFormat
 taken_or other (Ok f) = f
@@ -57,20 +59,6 @@ begun_ended (Some a) =
     ap counted back
 
 module _ {D St : Type 0} (view : D → View St) (how : Opening) where
-  -- an opened image shows its disk
-  pub shows_disk :
-      (files : List ℕ → List ℕ) (path : List ℕ) (format : ImageFormat) (x : FormatAccess D)
-      → IsFormatBy how.format path (files path) format
-      → IsImageIn view how files path format x
-      → ShowsDisk how files path (disk view x)
-  shows_disk files path format x by (layers, are, shown) = (
-    format,
-    layers,
-    by,
-    are,
-    same_listed (layers_value layers) (disk_value view x) _ _ shown.1 shown.2,
-  )
-
   -- the size of an opened image
   pub sized :
       (known : Option (List ℕ → List ℕ)) (path : List ℕ) (format : ImageFormat) (x : FormatAccess D)
@@ -102,7 +90,7 @@ module _ {D St : Type 0} (view : D → View St) (how : Opening) where
   appended_disk (Some files) path format x None new by image put = tt
   appended_disk (Some files) path format x (Some old) new by image put =
       let (bytes, is, then) = put image.2.0 in
-      let shown : ShowsDisk how files path (disk view x) = shows_disk files path format x by image in
+      let shown : ShowsDisk how files path (disk view x) = shows_disk view how files path format x by image in
       (bytes, subst (λ (d : List Value). ShowsDisk how files path d) is shown, then)
 
   -- an image shows the same under another path of it
@@ -146,12 +134,6 @@ image_sized how files path size (format, layers, by, are, e) = (format, layers, 
 pub image_as_said : (how said : Opening) → how ≡ said → (known : Option (List ℕ → List ℕ)) (path : List ℕ)
     → IfSome known (λ files. IsImage how files path) → IfSome known (λ files. IsImage said files path)
 image_as_said how said e known path h = subst (λ (o : Opening). IfSome known (λ files. IsImage o files path)) e h
-
--- the length of a disk
-pub disk_length : {D St : Type 0} (view : D → View St) (x : FormatAccess D) (size : ℕ)
-    → size ≡ (view (driver x)).size → size ≡ length (disk view x)
-disk_length view x size e =
-    e ∙ sym (length-map-range_with_len (disk_value view x) 0 (view (driver x)).size)
 
 module _ {D St : Type 0} (view : D → View St) (how : Opening)
     (other : Option ImageFormat) (same_size : Bool) where

@@ -29,12 +29,14 @@ use Rattle.imago_words.specs.declared.command.Convert.{Convert}
 use Rattle.imago_images.specs.declared.opening.Opening.{Opening}
 use Rattle.imago_img_parts.specs.Commands.{IsConvertedTo, IsNewlyConverted}
 use Rattle.imago_file.specs.Names.{path_beside}
-use Rattle.imago_img_parts.specs.Disks.{HasSize, IsConverted}
+use Rattle.imago_disk.specs.Shows.{HasSize}
+use Rattle.imago_img_parts.specs.Disks.{IsConverted}
 use Rattle.imago_img_parts.specs.Openings.{how_by}
 use Rattle.imago_img_parts.specs.LeftOvers.{IsApart}
 use Rattle.imago_img_parts.specs.Files.{Around, begun, ended, with_file, IsMade, IsSoOnceCleared, IsWhole}
 use Rattle.imago_img_parts.specs.NewFiles.{HasNamesBelow, IsCopyBy, IsEmptyFile, IsFilledWith, IsNewImage, IsNewlyMade, IsQcow2Copy, IsAboveImage, IsPlanned, IsSizeBelow, IsSizeBy, format_by}
-use Rattle.imago_img_parts.proofs.Disks.{image_sized, begun_ended, disk_length, on_ok, shows_disk}
+use Rattle.imago_disk.proofs.Shown.{shows_disk, disk_length}
+use Rattle.imago_img_parts.proofs.Disks.{image_sized, begun_ended, on_ok}
 
 then : {A E : Type 0} {P Q : Type 0} (r : Result A E) → (P → Q) → OnOk r P → OnOk r Q
 then (Ok x) f h = f h

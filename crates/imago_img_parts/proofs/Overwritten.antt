@@ -13,8 +13,10 @@ use Rattle.imago_images.specs.declared.opening.Opening.{Opening}
 use Rattle.imago_images.specs.Formats.{IsFormatBy}
 use Rattle.imago_images.specs.Images.{IsImageIn}
 use Rattle.imago_img_parts.specs.Files.{IsOverwritten}
-use Rattle.imago_img_parts.specs.Disks.{ShowsDisk, HasSize, IsDiskAppended, IsBegunDisk, IsDiskPartlyAppended, IsConvertedOver, IsPartlyConvertedOver}
-use Rattle.imago_img_parts.proofs.Disks.{disk_sized, shows_disk}
+use Rattle.imago_disk.specs.Shows.{ShowsDisk, HasSize}
+use Rattle.imago_img_parts.specs.Disks.{IsDiskAppended, IsBegunDisk, IsDiskPartlyAppended, IsConvertedOver, IsPartlyConvertedOver}
+use Rattle.imago_disk.proofs.Shown.{shows_disk}
+use Rattle.imago_img_parts.proofs.Disks.{disk_sized}
 
 -- what holds anyway holds where there is a refusal
 pub on_refusal : {A E : Type 0} (r : Result A E) (P : Type 0) → P → OnErr r P

@@ -21,7 +21,8 @@ use Rattle.imago_img_parts.specs.declared.run.Outcome.{Outcome}
 use Rattle.imago_img_parts.specs.declared.run.Outcome.TheVariants.{Fine, Unlike, Checked, Vetted}
 use Rattle.imago_img_parts.specs.Files.{Around, IsSoOnceCleared}
 use Rattle.imago_img_parts.specs.Disks.{IsConverted, IsConvertedOver, IsPartlyConvertedOver}
-use Rattle.imago_img_parts.specs.Disks.{IsImage, AreAlike, AreUnlike}
+use Rattle.imago_disk.specs.Shows.{IsImage}
+use Rattle.imago_img_parts.specs.Disks.{AreAlike, AreUnlike}
 use Rattle.imago_img_parts.specs.Measures.{IsMeasured}
 use Rattle.imago_img_parts.specs.NewFiles.{IsNewImage, IsNewlyMade, IsQcow2Copy, format_by}
 use Rattle.imago_img_parts.specs.Checked.{IsChecked}

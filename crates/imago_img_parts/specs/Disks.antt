@@ -1,45 +1,17 @@
--- The disks of images in files, and what the commands on whole disks do with them.
+-- What the commands on whole disks do with them.
 -- SPDX-License-Identifier: MIT
 use Rattle.std.specs.Prelude.{◌≡◌, ◌≢◌, ℕ, ◌≤◌, ◌⊎◌, ◌&&◌, ◌==◌, Bool, true, false, not}
 use Rattle.std.specs.Prelude.{List, [], ◌++◌, take, length, map, Option, Some, None, option_map}
 use Rattle.std.specs.Prelude.{IfSome}
-use Rattle.imago_drivers.specs.Place.{Place, Value, Byte}
-use Rattle.imago_access.specs.Disk.{values_from}
+use Rattle.imago_drivers.specs.Place.{Value, Byte}
 use Rattle.imago_copy.specs.Differences.{IsFirstDifferentValue}
 use Rattle.imago_images.specs.declared.format.ImageFormat.{ImageFormat}
 use Rattle.imago_images.specs.declared.opening.Opening.{Opening}
 use Rattle.imago_images.specs.declared.format.ImageFormat.TheVariants.{Raw, Vmdk, Qcow2}
-use Rattle.imago_images.specs.Formats.{IsFormatBy, format_by_name}
+use Rattle.imago_images.specs.Formats.{format_by_name}
 use Rattle.imago_images.specs.Gate.{folder_path}
-use Rattle.imago_images.specs.Layers.{layers_value, size_by}
-use Rattle.imago_images.specs.Images.{AreLayers}
+use Rattle.imago_disk.specs.Shows.{ShowsDisk, HasDisk}
 use Rattle.imago_img_parts.specs.Files.{Around, with_file, IsMade, IsOverwritten}
-
--- The image of a path shows these values, one for each offset of its disk: it is opened as the
--- format that was said, or else as the one that its file is taken to have, and its layers are what
--- its file and the files that this one leads to have, each of which is within the limits.
-abbrev pub ShowsDisk : Opening → (List ℕ → List ℕ) → List ℕ → List Value → Type 0
-ShowsDisk how files path disk =
-    (format : ImageFormat) × (layers : List (ℕ → Place))
-    × IsFormatBy how.format path (files path) format × AreLayers how files path format layers
-    × (disk ≡ values_from (layers_value layers) 0 (size_by how.accepted format (files path)))
-
--- the same, where all values are bytes
-abbrev pub HasDisk : Opening → (List ℕ → List ℕ) → List ℕ → List ℕ → Type 0
-HasDisk how files path disk = ShowsDisk how files path (map Byte disk)
-
--- The file of a path is an image: it is opened as above, and its layers are what its files have.
-abbrev pub IsImage : Opening → (List ℕ → List ℕ) → List ℕ → Type 0
-IsImage how files path = (format : ImageFormat) × (layers : List (ℕ → Place))
-    × IsFormatBy how.format path (files path) format × AreLayers how files path format layers
-
--- The size of the disk that the image of a path has, in bytes. The image is opened as above, and its
--- layers are what its files have.
-abbrev pub HasSize : Opening → (List ℕ → List ℕ) → List ℕ → ℕ → Type 0
-HasSize how files path size =
-    (format : ImageFormat) × (layers : List (ℕ → Place))
-    × IsFormatBy how.format path (files path) format × AreLayers how files path format layers
-    × (size ≡ size_by how.accepted format (files path))
 
 -- the disk of the image of a path was put behind what was there before, where both are told
 abbrev pub IsDiskAppended :

@@ -1,6 +1,6 @@
 -- Which unfinished files aren't removed: those that are files of the image that is read.
 -- SPDX-License-Identifier: MIT
-use Rattle.std.specs.Prelude.{◌≡◌, ℕ, ◌<◌, ◌&&◌, Bool, false, List, Option, Some, None, IfSome, nat_eq}
+use Rattle.std.specs.Prelude.{◌≡◌, ℕ, ◌<◌, false, List, Option, Some, None, IfSome}
 use Rattle.imago_access.specs.declared.access.FormatAccess.{FormatAccess, FormatAccess'}
 use Rattle.imago_access.specs.declared.access.FormatAccess.{Held-FormatAccess-backing, None', Some'}
 use Rattle.imago_drivers.specs.View.{Stores, View}
@@ -9,13 +9,10 @@ use Rattle.imago_images.specs.declared.files.FileStatus.{FileStatus}
 use Rattle.imago_images.specs.declared.opening.Opening.{Opening}
 use Rattle.imago_images.specs.ImageFiles.{IsOutsideImage}
 use Rattle.imago_images.specs.Way.{identity}
+use Rattle.imago_disk.specs.Files.{is_one_file}
 use Rattle.imago_words.specs.declared.command.Backing.{Backing}
 use Rattle.imago_words.specs.declared.command.Create.{Create}
 use Rattle.imago_img_parts.specs.Openings.{how_by}
-
--- whether two files are one, by their devices and numbers
-abbrev pub is_one_file : ℕ × ℕ → ℕ × ℕ → Bool
-is_one_file file other = nat_eq file.0 other.0 && nat_eq file.1 other.1
 
 -- no storage of a driver has the path of a file as its name that is that one
 abbrev pub AreElsewhere : Stores → (List ℕ → FileStatus) → ℕ × ℕ → Type 0

@@ -4,7 +4,7 @@ use Rattle.std.specs.Prelude.{ℕ, List}
 use Rattle.imago_words.specs.declared.command.Measure.{Measure}
 use Rattle.imago_words.specs.declared.command.Measured.{Measured}
 use Rattle.imago_words.specs.declared.command.Measured.TheVariants as M
-use Rattle.imago_img_parts.specs.Disks.{IsImage}
+use Rattle.imago_disk.specs.Shows.{IsImage}
 use Rattle.imago_img_parts.specs.Openings.{how_by}
 
 -- a disk that is measured is that of an image, or one of that many bytes

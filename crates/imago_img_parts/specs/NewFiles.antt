@@ -24,7 +24,7 @@ use Rattle.imago_qcow2_new.specs.Names.{HasNames, HasNoNames}
 use Rattle.imago_qcow2_new.specs.Image.{IsNewFile, IsQcow2Of}
 use Rattle.imago_images.specs.declared.opening.Opening.{Opening}
 use Rattle.imago_file.specs.Names.{path_beside}
-use Rattle.imago_img_parts.specs.Disks.{HasSize, IsImage, ShowsDisk}
+use Rattle.imago_disk.specs.Shows.{HasSize, IsImage, ShowsDisk}
 use Rattle.imago_img_parts.specs.Openings.{how_by}
 use Rattle.imago_img_parts.specs.Files.{Around, with_file, IsMade}
 

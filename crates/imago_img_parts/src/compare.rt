@@ -1,25 +1,24 @@
 // SPDX-License-Identifier: MIT
 //! Whether two images show the same.
 ghost use Rattle.std.specs.Prelude.{◌≡◌, true, false, IsTrue, IfOk, IfSome};
-ghost use Rattle.imago_access.specs.Chain.{tells_bytes};
-ghost use Rattle.imago_access.specs.Disk.{disk};
 ghost use Rattle.imago_copy.specs.Differences.{IsFirstDifferentValue};
+ghost use Rattle.imago_disk.specs.Disk.{values, is_told};
 ghost use Rattle.imago_images.specs.Gate.{folder_path};
 ghost use Rattle.imago_img_parts.specs.Disks.{AreCompared, ArePathsOfOne, NamesStandAlike};
 ghost use Rattle.imago_img_parts.specs.Disks.{AreSaidAlike, is_left_out, opened_as};
 
 use crate::failure::Failure;
 use crate::host::Host;
-use crate::image::{CHUNK, known_cause, not_read, opened, readable_size};
-use imago_access::access::FormatAccess;
-use imago_copy::compare::first_difference;
+use crate::image::{CHUNK, FileDisk, not_read, opened, readable_size};
+use imago_any_driver::any::AnyDriver;
+use imago_disk::disk::{Disk, Unread};
 use imago_drivers::drivers::FormatDriverInstance;
 use imago_images::files::Files;
 use imago_images::format::ImageFormat;
 use imago_images::gate::folder_of;
-use imago_images::opener::FileImage;
 use imago_images::opening::Opening;
 use imago_storage::error::Error;
+use imago_storage::storage::Storage;
 use std::alloc::Global;
 
 /// What is found of two images.
@@ -49,17 +48,17 @@ pub fn compare_images<H: Host>(
         found.sizes.1 found.difference)) }
 {
     let alloc = host.alloc();
-    let (format, left) = opened(host, first, how)?;
+    let left = opened(host, first, how)?;
     let (size, _) = readable_size(alloc, first, &left)?;
     if are_said_alike(how.format, other, first, second)
-        && are_paths_of_one(host, first, second, format)
+        && are_paths_of_one(host, first, second, left.format())
     {
         return Ok(Comparison {
             sizes: (size, size),
             difference: None,
         });
     }
-    let (_, right) = opened(host, second, said_of_second(how, other))?;
+    let right = opened(host, second, said_of_second(how, other))?;
     let (other_size, _) = readable_size(alloc, second, &right)?;
     match compared(
         alloc,
@@ -75,19 +74,19 @@ pub fn compare_images<H: Host>(
     }
 }
 
-/// Why two images weren't compared, of which the first one has that path: where it is known of a
-/// file of either, that is named.
+/// Why the disks of two images weren't compared, of which the first one has that path: where it is
+/// known of a file of either, that is named.
 fn not_compared<H: Host>(
     alloc: Global,
     first: &str,
-    left: &FileImage<'_, H>,
-    right: &FileImage<'_, H>,
+    left: &FileDisk<'_, H>,
+    right: &FileDisk<'_, H>,
     cause: Error,
 ) -> Failure {
-    if let Some(why) = known_cause(alloc, left, cause) {
-        return why;
+    match left.why(cause) {
+        Unread::File(file) => Failure::of_faulty(alloc, file),
+        Unread::Other(cause) => not_read(alloc, first, right, cause),
     }
-    not_read(alloc, first, right, cause)
 }
 
 /// How the second image is opened, by how the first one is, and its own format.
@@ -150,20 +149,23 @@ fn stand_alike(first: &str, second: &str, format: ImageFormat) -> bool
 }
 
 /// The first offset at which two disks differ, if they do and it isn't left out.
-fn compared<D: FormatDriverInstance>(
+fn compared<S: Storage>(
     alloc: Global,
-    left: &FormatAccess<D>,
-    right: &FormatAccess<D>,
+    left: &Disk<S>,
+    right: &Disk<S>,
     skips: bool,
 ) -> Result<Option<u64>, Error>
-    ensures { skips ≡ false → IsTrue (tells_bytes D.view left.now)
-        → IsTrue (tells_bytes D.view right.now) → IfOk result (λ found.
-        IsFirstDifferentValue (disk D.view left.now) (disk D.view right.now) found) }
+    ensures { skips ≡ false → IsTrue
+        (is_told ⟦<AnyDriver<S> as FormatDriverInstance>⟧.view left.now) → IsTrue
+        (is_told ⟦<AnyDriver<S> as FormatDriverInstance>⟧.view right.now)
+        → IfOk result (λ found. IsFirstDifferentValue
+        (values ⟦<AnyDriver<S> as FormatDriverInstance>⟧.view left.now)
+        (values ⟦<AnyDriver<S> as FormatDriverInstance>⟧.view right.now) found) }
 {
     if skips {
         return Ok(None);
     }
     let mut left_buf = vec![in alloc; 0u8; CHUNK]?;
     let mut right_buf = vec![in alloc; 0u8; CHUNK]?;
-    first_difference(alloc, left, right, &mut left_buf, &mut right_buf)
+    left.first_difference(right, &mut left_buf, &mut right_buf)
 }

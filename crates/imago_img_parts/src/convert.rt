@@ -1,7 +1,8 @@
 // SPDX-License-Identifier: MIT
 //! An image's disk, written to a raw file.
 ghost use Rattle.std.specs.Prelude.{◌≡◌, OnOk, OnErr, IfOk, IfSome, IsOk, option_map};
-ghost use Rattle.imago_img_parts.specs.Disks.{HasSize, IsDiskAppended, IsDiskPartlyAppended};
+ghost use Rattle.imago_disk.specs.Shows.{HasSize};
+ghost use Rattle.imago_img_parts.specs.Disks.{IsDiskAppended, IsDiskPartlyAppended};
 ghost use Rattle.imago_img_parts.specs.Disks.{IsConverted};
 ghost use Rattle.imago_img_parts.specs.Files.{ended, with_file, IsMade, IsSoOnceCleared};
 ghost use Rattle.imago_img_parts.specs.Files.{IsWhole};
@@ -10,12 +11,12 @@ ghost use Rattle.imago_images.specs.Way.{identity};
 
 use crate::failure::{Failure, Reason, Refusal};
 use crate::host::{FileKind, FileStatus, Host, LeftOver, Making};
-use crate::image::{CHUNK, has_file, not_read, opened, readable_size};
+use crate::image::{CHUNK, FileDisk, has_file, not_read, opened, readable_size};
 use crate::progress::Progress;
+use crate::short::warn;
 use crate::unfinished::{left_by, remove_left_over, test_apart};
-use imago_copy::copy::{CopyError, copy_disk};
+use imago_copy::copy::CopyError;
 use imago_copy::target::Target;
-use imago_images::opener::FileImage;
 use imago_images::opening::Opening;
 use std::io::{ErrorKind, Write};
 
@@ -39,8 +40,8 @@ pub fn convert_image<H: Host, E: Write>(
 ) -> Result<(), Failure>
     ensures converted { OnOk result (IsSoOnceCleared making.replace (H.contents host.old)
         (H.around host.old) to.now (IsApart how (H.contents host.old) (H.statuses host.old)
-        (H.left_overs host.old) from.now to.now) (λ files around. IsConverted how making.replace files (H.contents host.new) around (H.around host.new)
-        from.now to.now)) }
+        (H.left_overs host.old) from.now to.now) (λ files around. IsConverted how making.replace
+        files (H.contents host.new) around (H.around host.new) from.now to.now)) }
     ensures refused { OnErr result (IsSoOnceCleared making.replace (H.contents host.old)
         (H.around host.old) to.now (IsApart how (H.contents host.old) (H.statuses host.old)
         (H.left_overs host.old) from.now to.now)
@@ -85,10 +86,10 @@ fn test_removal<H: Host>(
     ensures { OnOk result (IsNoSource how (H.contents host.now) (H.statuses host.now) from.now
         (identity left.now.status)) }
 {
-    let (_, image) = opened(host, from, how)?;
-    readable_size(host.alloc(), from, &image)?;
-    test_target(host, &image, to, true)?;
-    test_apart(host, &image, left)
+    let disk = opened(host, from, how)?;
+    readable_size(host.alloc(), from, &disk)?;
+    test_target(host, &disk, to, true)?;
+    test_apart(host, &disk, left)
 }
 
 /// Does the same where no unfinished file is left beside the path. Refused, it leaves all files as
@@ -130,22 +131,22 @@ fn tested_size<H: Host, E: Write>(
     ensures { IfOk result (λ size. IfSome (H.contents host.now)
         (λ files. HasSize how files from.now size)) }
 {
-    let (_, image) = opened(host, from, how)?;
-    let (size, short) = readable_size(host.alloc(), from, &image)?;
-    test_place(host, &image, to, replace)?;
-    let _ = short.warn(warnings);
+    let disk = opened(host, from, how)?;
+    let (size, short) = readable_size(host.alloc(), from, &disk)?;
+    test_place(host, &disk, to, replace)?;
+    let _ = warn(&short, warnings);
     Ok(size)
 }
 
 /// Whether a new file of an image may be made for that path.
 pub(crate) fn test_place<H: Host>(
     host: &H,
-    image: &FileImage<'_, H>,
+    disk: &FileDisk<'_, H>,
     to: &str,
     replace: bool,
 ) -> Result<(), Failure> {
-    test_target(host, image, to, replace)?;
-    test_left_over(host, image, to, replace)
+    test_target(host, disk, to, replace)?;
+    test_left_over(host, disk, to, replace)
 }
 
 /// Puts the bytes of the disk into a file, and shows how far it is. Refused, the first ones of them
@@ -185,11 +186,11 @@ fn fill<H: Host, T: Target>(
         (T.contents target.old) (T.contents target.new)) }
 {
     let alloc = host.alloc();
-    let (_, image) = opened(host, from, how)?;
+    let disk = opened(host, from, how)?;
     let mut buf = vec![in alloc; 0u8; CHUNK]?;
-    match copy_disk(alloc, &image, target, &mut buf) {
+    match disk.copy_to(target, &mut buf) {
         Ok(()) => Ok(()),
-        Err(CopyError::Image(cause)) => Err(not_read(alloc, from, &image, cause)),
+        Err(CopyError::Image(cause)) => Err(not_read(alloc, from, &disk, cause)),
         Err(CopyError::Target(cause)) => Err(Failure::of_file(alloc, to, Reason::System(cause))),
     }
 }
@@ -222,7 +223,7 @@ pub(crate) fn end<H: Host>(
 /// Whether the disk of an image may be written to a file of that path.
 pub(crate) fn test_target<H: Host>(
     host: &H,
-    image: &FileImage<'_, H>,
+    disk: &FileDisk<'_, H>,
     to: &str,
     replace: bool,
 ) -> Result<(), Failure> {
@@ -231,7 +232,7 @@ pub(crate) fn test_target<H: Host>(
         Err(cause) if cause.kind() == ErrorKind::NotFound => return Ok(()),
         Err(cause) => return Err(Failure::of_file(host.alloc(), to, Reason::System(cause))),
     };
-    match target_fault(there, has_file(image, there), replace) {
+    match target_fault(there, has_file(disk, there), replace) {
         Some(refusal) => Err(Failure::of_target(host.alloc(), to, refusal)),
         None => Ok(()),
     }
@@ -240,7 +241,7 @@ pub(crate) fn test_target<H: Host>(
 /// Whether no unfinished file stands beside a path, or one that may be removed.
 fn test_left_over<H: Host>(
     host: &H,
-    image: &FileImage<'_, H>,
+    disk: &FileDisk<'_, H>,
     to: &str,
     replace: bool,
 ) -> Result<(), Failure> {
@@ -250,7 +251,7 @@ fn test_left_over<H: Host>(
     if !replace {
         return Err(Failure::of_target(host.alloc(), &left.path, Refusal::LeftOver));
     }
-    test_apart(host, image, &left)
+    test_apart(host, disk, &left)
 }
 
 /// Why a file isn't replaced, which may be one of the image that is read.

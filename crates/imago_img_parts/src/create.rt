@@ -7,7 +7,8 @@ ghost use Rattle.imago_qcow2_new.specs.Image.{IsNewFile};
 ghost use Rattle.imago_qcow2_new.specs.Layout.{IsLayoutOf, StoresNothing, file_length};
 ghost use Rattle.imago_words.specs.declared.settings.NewFormat.TheVariants as New;
 ghost use Rattle.imago_access.specs.Chain.{driver};
-ghost use Rattle.imago_img_parts.specs.Disks.{HasSize};
+ghost use Rattle.imago_disk.specs.Disk.{image_of};
+ghost use Rattle.imago_disk.specs.Shows.{HasSize};
 ghost use Rattle.imago_img_parts.specs.Files.{IsSoOnceCleared};
 ghost use Rattle.imago_img_parts.specs.LeftOvers.{IsApartBelow, IsNoSource, IsNoSourceBelow};
 ghost use Rattle.imago_images.specs.Way.{identity};
@@ -18,7 +19,7 @@ ghost use Rattle.imago_img_parts.specs.NewFiles.{format_by, format_text};
 use crate::convert::{end, target_fault, test_place, test_target};
 use crate::failure::{Failure, Reason, Refusal};
 use crate::host::{Host, LeftOver, Making};
-use crate::image::{CHUNK, opened};
+use crate::image::{CHUNK, FileDisk, opened};
 use crate::new_qcow2::of_format;
 use crate::opening::{how_to_open, new_format};
 use crate::unfinished::{left_by, remove_left_over, test_apart};
@@ -27,7 +28,6 @@ use imago_copy::target::Target;
 use imago_drivers::drivers::FormatDriverInstance;
 use imago_file::name::path_beside;
 use imago_images::file::PathStorage;
-use imago_images::opener::FileImage;
 use imago_images::opening::Opening;
 use imago_qcow2_new::format::{Backing, FormatError};
 use imago_qcow2_new::layout::{Layout, rounded_size};
@@ -50,9 +50,9 @@ use std::io::ErrorKind;
 pub fn create_image<H: Host>(host: &mut H, asked: Create<'_>) -> Result<(), Failure>
     ensures created { OnOk result (IsSoOnceCleared asked.entry.force (H.contents host.old)
         (H.around host.old) asked.entry.target.now (IsApartBelow asked.entry asked.entry.backing
-        (H.contents host.old) (H.statuses host.old) (H.left_overs host.old)) (λ files around. IsNewlyMade
-        (IsNewImage asked.entry) asked.entry.force files (H.contents host.new) around
-        (H.around host.new) asked.entry.target.now)) }
+        (H.contents host.old) (H.statuses host.old) (H.left_overs host.old))
+        (λ files around. IsNewlyMade (IsNewImage asked.entry) asked.entry.force files
+        (H.contents host.new) around (H.around host.new) asked.entry.target.now)) }
     ensures refused { OnErr result (IsSoOnceCleared asked.entry.force (H.contents host.old)
         (H.around host.old) asked.entry.target.now (IsApartBelow asked.entry asked.entry.backing
         (H.contents host.old) (H.statuses host.old) (H.left_overs host.old))
@@ -110,9 +110,9 @@ fn test_removal_above<H: Host>(
     ensures { OnOk result (IsNoSource how (H.contents host.now) (H.statuses host.now) path.now
         (identity left.now.status)) }
 {
-    let (_, image) = opened(host, path, how)?;
-    test_target(host, &image, to, true)?;
-    test_apart(host, &image, left)
+    let disk = opened(host, path, how)?;
+    test_target(host, &disk, to, true)?;
+    test_apart(host, &disk, left)
 }
 
 /// Does the same where no unfinished file is left beside the path. Refused, it leaves all files as
@@ -332,23 +332,23 @@ fn size_at<H: Host>(host: &H, path: &str, how: Opening, asked: Create<'_>) -> Re
     ensures { IfOk result (λ size. IfSome (H.contents host.now)
         (λ files. HasSize how files path.now size)) }
 {
-    let (_, image) = opened(host, path, how)?;
-    let size = size_above(host, &image, asked)?;
+    let disk = opened(host, path, how)?;
+    let size = size_above(host, &disk, asked)?;
     Ok(size)
 }
 
 /// The size of an image's disk, in bytes, above which a new one may be made.
 fn size_above<'a, H: Host>(
     host: &H,
-    image: &FileImage<'a, H>,
+    disk: &FileDisk<'a, H>,
     asked: Create<'_>,
 ) -> Result<u64, Failure>
     ensures { IfOk result (λ size. size
         ≡ (⟦<AnyDriver<PathStorage<'a, H>> as FormatDriverInstance>⟧.view
-        (driver image.now)).size) }
+        (driver (image_of disk.now))).size) }
 {
-    test_place(host, image, asked.target, asked.force)?;
-    Ok(image.size())
+    test_place(host, disk, asked.target, asked.force)?;
+    Ok(disk.size())
 }
 
 /// Whether a new file that reads no other may be made for that path.

@@ -3,10 +3,11 @@
 ghost use Rattle.std.specs.Prelude.{◌≡◌, MatchResult, IsErr};
 ghost use Rattle.imago_img_parts.specs.Vetted.{IsHostRefusal, IsHostFailure};
 
+use imago_disk::cause::{Cause, ClusterFault, FaultyFile};
+use imago_disk::disk::Unread;
 pub use imago_images::failure::{OpenError, Reason};
 use imago_images::format::ImageFormat;
 use imago_images::signature::Signature;
-use imago_inflate::fault::InflateError;
 use imago_qcow2_check::fault::{CheckError, Fault};
 use imago_qcow2_new::format::FormatError;
 use imago_storage::error;
@@ -187,17 +188,6 @@ pub enum Refusal {
     },
 }
 
-/// Why a compressed cluster can't be read, and what can be done about it.
-#[derive(Clone, Copy, Debug, Error)]
-pub enum ClusterFault {
-    /// It is compressed with zstd.
-    #[error("is compressed with zstd, which isn't offered; qemu-img convert writes it uncompressed")]
-    Zstd,
-    /// Its stream has that fault.
-    #[error("can't be decoded: {0}; use an intact copy of the file")]
-    Stream(InflateError),
-}
-
 /// The name of a format.
 fn name_of(format: ImageFormat) -> &'static str {
     format.name()
@@ -373,8 +363,8 @@ impl Failure {
         }
     }
 
-    /// The compressed cluster of that file at that offset of the disk can't be read.
-    pub fn of_cluster(alloc: Global, path: &str, offset: u64, fault: ClusterFault) -> Failure {
+    /// A compressed cluster of that file can't be read, which begins at that offset of the disk.
+    fn of_cluster(alloc: Global, path: &str, offset: u64, fault: ClusterFault) -> Failure {
         match String::from_str(alloc, path) {
             Ok(path) => Failure::Compressed {
                 path,
@@ -382,6 +372,25 @@ impl Failure {
                 fault,
             },
             Err(_) => Failure::Memory,
+        }
+    }
+
+    /// A disk isn't read because of that file.
+    pub fn of_faulty(alloc: Global, file: FaultyFile<'_>) -> Failure {
+        match file.cause {
+            Cause::Host(answer) => Failure::of_file(alloc, file.path, Reason::System(answer)),
+            Cause::Cluster { offset, fault } => {
+                Failure::of_cluster(alloc, file.path, offset, fault)
+            }
+            Cause::Entry(fault) => Failure::of_entry(alloc, file.path, fault),
+        }
+    }
+
+    /// The disk of the image of that path isn't read.
+    pub fn of_unread(alloc: Global, path: &str, why: Unread<'_>) -> Failure {
+        match why {
+            Unread::File(file) => Failure::of_faulty(alloc, file),
+            Unread::Other(cause) => Failure::of_file(alloc, path, Reason::Image(cause)),
         }
     }
 

@@ -1,7 +1,7 @@
 // SPDX-License-Identifier: MIT
 //! Where the bytes of an image's disk stand.
 ghost use Rattle.std.specs.Prelude.{◌≡◌, ◌<◌, ◌≤◌, if◌then◌else◌, OnOk, IfSome};
-ghost use Rattle.imago_img_parts.specs.Disks.{IsImage};
+ghost use Rattle.imago_disk.specs.Shows.{IsImage};
 ghost use Rattle.imago_img_parts.specs.declared.lines.LineKind.TheVariants as Kinds;
 
 use crate::failure::Failure;
@@ -12,6 +12,7 @@ use crate::lines::{Line, LineKind, print_line, print_object};
 use imago_access::access::FormatAccess;
 use imago_copy::layers::{LayerRun, LayerRuns};
 use imago_copy::runs::{Kind, Run};
+use imago_disk::disk::Disk;
 use imago_drivers::drivers::FormatDriverInstance;
 use imago_images::opening::Opening;
 use imago_storage::error::Error;
@@ -51,21 +52,22 @@ pub fn map_image<H: Host, W: Write>(
     ensures { OnOk result (IfSome (H.contents host.now)
         (λ files. IsImage how files path.now)) }
 {
-    let (_, image) = opened(host, path, how)?;
-    match print_image(host, &image, json, output) {
+    let disk = opened(host, path, how)?;
+    match print_image(host, &disk, json, output) {
         Ok(printed) => printed.map_err(Failure::Output),
-        Err(cause) => Err(not_read(host.alloc(), path, &image, cause)),
+        Err(cause) => Err(not_read(host.alloc(), path, &disk, cause)),
     }
 }
 
-/// Prints the disk of an image. An error is the image's refusal, or that of memory, and one inside
-/// an answer is the output's.
-fn print_image<H: Host, D: FormatDriverInstance, W: Write>(
+/// Prints a disk. An error is its image's refusal, or that of memory, and one inside an answer is
+/// the output's.
+fn print_image<H: Host, S: Storage, W: Write>(
     host: &H,
-    image: &FormatAccess<D>,
+    disk: &Disk<S>,
     json: bool,
     output: &mut W,
 ) -> Result<io::Result<()>, Error> {
+    let image = disk.image();
     let files = files_of(host.alloc(), image, json)?;
     let mut printer = Printer {
         output,

@@ -3,7 +3,7 @@
 ghost use Rattle.std.specs.Prelude.{◌≡◌, ℕ, IfOk, IfSome, OnOk};
 ghost use Rattle.imago_qcow2_new.specs.declared.layout.Layout.{Layout};
 ghost use Rattle.imago_qcow2_new.specs.Layout.{IsLayoutOf, file_length};
-ghost use Rattle.imago_img_parts.specs.Disks.{IsImage};
+ghost use Rattle.imago_disk.specs.Shows.{IsImage};
 ghost use Rattle.imago_img_parts.specs.Measures.{IsMeasured};
 ghost use Rattle.imago_img_parts.specs.NewFiles.{format_by};
 ghost use Rattle.imago_img_parts.specs.Openings.{how_by};
@@ -11,10 +11,9 @@ ghost use Rattle.imago_img_parts.specs.Openings.{how_by};
 use crate::create::{planned, raw_length};
 use crate::failure::Failure;
 use crate::host::Host;
-use crate::image::{opened, readable_size};
+use crate::image::{FileDisk, opened, readable_size};
 use crate::new_qcow2::{NewQcow2, layout_for};
 use crate::opening::{how_to_open, new_format};
-use imago_images::opener::FileImage;
 use imago_words::command::{Measure, Measured, Output};
 use imago_words::settings::{NewFormat, Settings};
 use std::alloc::Global;
@@ -78,18 +77,18 @@ fn lengths_of_file<H: Host>(host: &H, file: &str, asked: Measure<'_>) -> Result<
         (λ files. IsImage (how_by asked.entry.source_format asked.entry.opening) files file.now)) }
 {
     let how = how_to_open(asked.source_format, asked.opening);
-    let (_, image) = opened(host, file, how)?;
-    lengths_of_image(host.alloc(), file, &image, asked)
+    let disk = opened(host, file, how)?;
+    lengths_of_disk(host.alloc(), file, &disk, asked)
 }
 
-/// The same, where the image of that path is opened.
-fn lengths_of_image<H: Host>(
+/// The same, where the disk of the image of that path is opened.
+fn lengths_of_disk<H: Host>(
     alloc: Global,
     file: &str,
-    image: &FileImage<'_, H>,
+    disk: &FileDisk<'_, H>,
     asked: Measure<'_>,
 ) -> Result<Lengths, Failure> {
-    let (size, _) = readable_size(alloc, file, image)?;
+    let (size, _) = readable_size(alloc, file, disk)?;
     let NewFormat::Qcow2(settings) = asked.target_format else {
         return raw_lengths(alloc, file, size);
     };
@@ -97,7 +96,7 @@ fn lengths_of_image<H: Host>(
         format: new_format(settings),
         all: settings.preallocated,
     };
-    let layout = layout_for(alloc, image, file, file, new)?;
+    let layout = layout_for(alloc, disk, file, file, new)?;
     Ok(Lengths {
         required: layout.file_length(),
         full: full_length(alloc, file, size, settings)?,

@@ -10,17 +10,14 @@ ghost use Rattle.imago_img_parts.specs.NewFiles.{IsCopyBy, IsFilledWith, IsNewly
 use crate::convert::{clear, end, test_place};
 use crate::failure::{Failure, Reason, Refusal};
 use crate::host::{Host, Making};
-use crate::image::{CHUNK, not_read, opened, readable_size};
+use crate::image::{CHUNK, FileDisk, not_read, opened, readable_size};
 use crate::progress::Progress;
-use imago_access::access::FormatAccess;
+use crate::short::warn;
 use imago_copy::target::Target;
-use imago_drivers::drivers::FormatDriverInstance;
-use imago_images::opener::FileImage;
 use imago_images::opening::Opening;
 use imago_qcow2_new::format::{Format, FormatError};
 use imago_qcow2_new::layout::Layout;
-use imago_qcow2_new::scan::{layout_of, layout_of_size};
-use imago_qcow2_new::write::{NewFileError, write_image};
+use imago_qcow2_new::write::NewFileError;
 use std::alloc::Global;
 use std::io::Write;
 
@@ -110,18 +107,18 @@ fn planned<H: Host, E: Write>(
     ensures { IfOk result (λ l. (size : ℕ) × IsLayoutOf new.format size l
         × HasNoNames l) }
 {
-    let (_, image) = opened(host, from, how)?;
-    let (_, short) = readable_size(host.alloc(), from, &image)?;
-    test_place(host, &image, to, replace)?;
-    let layout = layout_for(host.alloc(), &image, from, to, new)?;
-    let _ = short.warn(warnings);
+    let disk = opened(host, from, how)?;
+    let (_, short) = readable_size(host.alloc(), from, &disk)?;
+    test_place(host, &disk, to, replace)?;
+    let layout = layout_for(host.alloc(), &disk, from, to, new)?;
+    let _ = warn(&short, warnings);
     Ok(layout)
 }
 
 /// Where everything stands in the new file of an image's disk.
 pub(crate) fn layout_for<H: Host>(
     alloc: Global,
-    image: &FileImage<'_, H>,
+    disk: &FileDisk<'_, H>,
     from: &str,
     to: &str,
     new: NewQcow2,
@@ -131,26 +128,10 @@ pub(crate) fn layout_for<H: Host>(
 {
     let count = if new.all { 0 } else { CHUNK };
     let mut buf = vec![in alloc; 0u8; count]?;
-    match layout_in(alloc, image, new, &mut buf) {
+    match disk.qcow2_layout(new.format, new.all, &mut buf) {
         Ok(layout) => Ok(layout),
-        Err(cause) => Err(not_written(alloc, from, to, image, cause)),
+        Err(cause) => Err(not_written(alloc, from, to, disk, cause)),
     }
-}
-
-/// The same of an image with any driver, whose disk is read by way of the buffer, if it has to be.
-fn layout_in<D: FormatDriverInstance>(
-    alloc: Global,
-    image: &FormatAccess<D>,
-    new: NewQcow2,
-    buf: &mut [u8],
-) -> Result<Layout, NewFileError>
-    ensures { IfOk result (λ l. (size : ℕ) × IsLayoutOf new.format size l
-        × HasNoNames l) }
-{
-    if new.all {
-        return Ok(layout_of_size(alloc, new.format, image.size(), true, None)?);
-    }
-    layout_of(alloc, image, new.format, None, buf)
 }
 
 /// Puts a new file of an image's disk into a target, and shows how far it is.
@@ -188,11 +169,11 @@ fn write<H: Host, T: Target>(
         (file_length layout.now) (T.contents target.old) (T.contents target.new))) }
 {
     let alloc = host.alloc();
-    let (_, image) = opened(host, from, how)?;
+    let disk = opened(host, from, how)?;
     let mut buf = vec![in alloc; 0u8; CHUNK]?;
-    match write_image(alloc, &image, layout, target, &mut buf) {
+    match disk.write_qcow2(layout, target, &mut buf) {
         Ok(()) => Ok(()),
-        Err(cause) => Err(not_written(alloc, from, to, &image, cause)),
+        Err(cause) => Err(not_written(alloc, from, to, &disk, cause)),
     }
 }
 
@@ -201,12 +182,12 @@ fn not_written<H: Host>(
     alloc: Global,
     from: &str,
     to: &str,
-    image: &FileImage<'_, H>,
+    disk: &FileDisk<'_, H>,
     cause: NewFileError,
 ) -> Failure {
     match cause {
         NewFileError::Format(fault) => of_format(alloc, to, fault),
-        NewFileError::Image(cause) => not_read(alloc, from, image, cause),
+        NewFileError::Image(cause) => not_read(alloc, from, disk, cause),
         NewFileError::Target(cause) => Failure::of_file(alloc, to, Reason::System(cause)),
         NewFileError::Changed => Failure::of_target(alloc, from, Refusal::Changed),
     }

@@ -1,12 +1,14 @@
 // SPDX-License-Identifier: MIT
 //! An image's disk, written over a file that is there.
 ghost use Rattle.std.specs.Prelude.{◌≡◌, ◌≤◌, OnOk, OnErr, IfOk, IfSome, length};
-ghost use Rattle.imago_img_parts.specs.Disks.{HasSize, IsConvertedOver, IsPartlyConvertedOver};
+ghost use Rattle.imago_disk.specs.Shows.{HasSize};
+ghost use Rattle.imago_img_parts.specs.Disks.{IsConvertedOver, IsPartlyConvertedOver};
 
 use crate::convert::fill_shown;
 use crate::failure::{Failure, Reason, Refusal};
 use crate::host::{FileKind, FileStatus, Host};
 use crate::image::{has_file, opened, readable_size};
+use crate::short::warn;
 use imago_images::opening::Opening;
 use std::io::{ErrorKind, Write};
 
@@ -58,17 +60,17 @@ fn fitting_size<H: Host, E: Write>(
     ensures fits { IfOk result (λ size. IfSome (H.contents host.now)
         (λ files. size ≤ length (files to.now))) }
 {
-    let (_, image) = opened(host, from, how)?;
-    let (size, short) = readable_size(host.alloc(), from, &image)?;
+    let disk = opened(host, from, how)?;
+    let (size, short) = readable_size(host.alloc(), from, &disk)?;
     let there = existing(host, to)?;
-    if has_file(&image, there) {
+    if has_file(&disk, there) {
         return Err(Failure::of_target(host.alloc(), to, Refusal::IsRead));
     }
     if size > there.length {
         let length = there.length;
         return Err(Failure::of_target(host.alloc(), to, Refusal::TooSmall { length, size }));
     }
-    let _ = short.warn(warnings);
+    let _ = warn(&short, warnings);
     Ok(size)
 }
 

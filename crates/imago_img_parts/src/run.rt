@@ -16,7 +16,8 @@ ghost use Rattle.imago_img_parts.specs.Commands.{outcome_status, outcome_when, r
 ghost use Rattle.imago_img_parts.specs.Commands.{check_status, untold, vet_status};
 ghost use Rattle.imago_img_parts.specs.Vetted.{IsVetted};
 ghost use Rattle.imago_img_parts.specs.Described.{IsDescribed};
-ghost use Rattle.imago_img_parts.specs.Disks.{is_left_out, IsImage};
+ghost use Rattle.imago_disk.specs.Shows.{IsImage};
+ghost use Rattle.imago_img_parts.specs.Disks.{is_left_out};
 ghost use Rattle.imago_img_parts.specs.Measures.{IsMeasured};
 ghost use Rattle.imago_img_parts.specs.NewFiles.{format_by};
 ghost use Rattle.imago_img_parts.specs.Openings.{how_by, image_format};

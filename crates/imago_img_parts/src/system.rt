@@ -1,19 +1,14 @@
 // SPDX-License-Identifier: MIT
-//! The system's files.
-ghost use Rattle.std.specs.Prelude.{◌≡◌, ◌+◌, ◌-◌, ◌<◌, ◌≤◌, min, None, IfOk, IfSome, IsNone, true};
-ghost use Rattle.std.specs.Prelude.{false, length, drop, option_to_list};
-ghost use Rattle.std.specs.String.{string_bytes};
+//! The system's files, where commands find them and make them.
+ghost use Rattle.std.specs.Prelude.{None};
 
 use crate::host::{FileKind, FileStatus, Files, Host, LeftOver, Making, UNFINISHED};
 use imago_copy::target::Target;
-use imago_file::host::HostFile;
+use imago_disk::system::{SystemFiles, kind_of};
 use std::alloc::Global;
-use std::cell::Cell;
 use std::fs::{self, File, Metadata, OpenOptions, Permissions};
-use std::io::{self, ErrorKind, Seek, SeekFrom};
-use std::os::unix::fs::{
-    FileExt, FileTypeExt, MetadataExt, OpenOptionsExt, PermissionsExt, fchown,
-};
+use std::io::{self, ErrorKind};
+use std::os::unix::fs::{FileExt, MetadataExt, OpenOptionsExt, PermissionsExt, fchown};
 
 /// How many bytes the blocks have in which a file's status tells what it takes.
 const BLOCK_OF_STATUS: u64 = 512;
@@ -35,32 +30,11 @@ const PERMISSIONS: u32 = 0o777;
 
 const GROUP: u32 = 0o070;
 
-/// How many files are kept open, where nothing else is asked for.
-const MOST_OPEN: usize = 16;
-
-/// The system's files.
-///
-/// A file is opened for the first question about its bytes or its end, and stays open for later
-/// ones. A number of files do: before another is opened, the one that wasn't used for the longest
-/// time is closed, and all are where the system refuses to open one more. A file that refuses a
-/// read is closed at once, and all are when a new file gets its path. While a file is open, such
-/// questions don't ask again what its path leads to; `status` and `real_path` always do.
+/// The system's files, as the commands read and make them: those that are read are kept open, as
+/// [`SystemFiles`] does, until a new file gets its path.
 #[derive(Drop)]
 pub struct System<'a> {
-    runtime: &'a HostRuntime,
-    /// The files that are kept open, in the order in which they were used.
-    kept: Cell<Vec<OpenFile>>,
-    /// How many files may be open beside the one that is used.
-    others: usize,
-}
-
-/// A file that is open, and its path.
-#[derive(Drop)]
-struct OpenFile {
-    path: String,
-    file: File,
-    /// Whether it is a regular file, once that was asked. An open file stays of its kind.
-    is_regular: Option<bool>,
+    files: SystemFiles<'a>,
 }
 
 /// A file that is being made.
@@ -90,168 +64,22 @@ pub struct ExistingFile {
 impl<'a> System<'a> {
     /// The files of that runtime, of which up to sixteen are kept open.
     pub fn new(runtime: &'a HostRuntime) -> Self {
-        System::with_most_open(runtime, MOST_OPEN)
+        System {
+            files: SystemFiles::new(runtime),
+        }
     }
 
     /// The files of that runtime, of which up to that many are kept open, and at least one.
     pub fn with_most_open(runtime: &'a HostRuntime, most: usize) -> Self {
         System {
-            runtime,
-            kept: Cell::new(Vec::new(runtime.alloc())),
-            others: most.saturating_sub(1),
+            files: SystemFiles::with_most_open(runtime, most),
         }
     }
 
-    /// The files that are kept open, out of their cell: none are in it until it is set again.
-    fn take_kept(&self) -> Vec<OpenFile> {
-        self.kept.replace(Vec::new(self.runtime.alloc()))
+    /// The runtime whose files these are.
+    fn runtime(&self) -> &'a HostRuntime {
+        self.files.runtime()
     }
-
-    /// The file of a path, open. It is no longer among those that are kept.
-    fn open(&self, path: &str) -> io::Result<OpenFile>
-        ensures { IfOk result (λ found. string_bytes found.path ≡ path.now) }
-    {
-        let mut kept = self.take_kept();
-        let opened = match take_file(&mut kept, path) {
-            Some(open) => Ok(open),
-            None => {
-                close_unused(&mut kept, self.others);
-                self.open_anew(&mut kept, path)
-            }
-        };
-        self.kept.set(kept);
-        opened
-    }
-
-    /// Opens the file of a path. Where that is refused, it is tried once more with all files closed
-    /// that are kept: the system may allow fewer open files than these.
-    fn open_anew(&self, kept: &mut Vec<OpenFile>, path: &str) -> io::Result<OpenFile>
-        ensures { IfOk result (λ found. string_bytes found.path ≡ path.now) }
-    {
-        let opened = OpenFile::open(self.runtime, path);
-        if opened.is_ok() || kept.is_empty() {
-            return opened;
-        }
-        close_unused(kept, 0);
-        OpenFile::open(self.runtime, path)
-    }
-
-    /// Keeps a file open, as the one that was used last.
-    fn keep(&self, open: OpenFile) {
-        let mut kept = self.take_kept();
-        put_last(&mut kept, open, self.others);
-        self.kept.set(kept);
-    }
-}
-
-/// Takes the file of a path out of those that are kept, if it is there. The one that was used last
-/// is looked at first.
-fn take_file(kept: &mut Vec<OpenFile>, path: &str) -> Option<OpenFile>
-    ensures path { IfSome result (λ found. string_bytes found.path ≡ path.now) }
-    ensures taken { length kept.new.items + length (option_to_list result)
-        ≡ length kept.old.items }
-{
-    for index in (0..kept.len()).rev() {
-        if kept[index].path.as_str() == path {
-            return Some(kept.remove(index));
-        }
-    }
-    None
-}
-
-/// Closes the files that weren't used for the longest time, until at most that many are kept.
-fn close_unused(kept: &mut Vec<OpenFile>, most: usize)
-    ensures { kept.new.items ≡ drop (length kept.old.items - most) kept.old.items }
-{
-    let surplus = kept.len().saturating_sub(most);
-    if surplus > 0 {
-        kept.drain(..surplus);
-    }
-}
-
-/// Puts a file behind those that are kept, of which at most that many others stay. Where memory for
-/// it is refused, it is closed.
-fn put_last(kept: &mut Vec<OpenFile>, open: OpenFile, others: usize)
-    ensures { length kept.new.items ≤ others + 1 }
-{
-    close_unused(kept, others);
-    let _ = kept.push(open);
-}
-
-impl OpenFile {
-    /// Opens the file of a path.
-    fn open(runtime: &HostRuntime, path: &str) -> io::Result<OpenFile>
-        ensures { IfOk result (λ found. string_bytes found.path ≡ path.now) }
-    {
-        Ok(OpenFile {
-            path: String::from_str(runtime.alloc(), path)?,
-            file: File::open(runtime, path)?,
-            is_regular: None,
-        })
-    }
-
-    /// Fills the buffer with the file's bytes from the offset on, with 0 past its end. A read that
-    /// would pass the greatest offset is refused.
-    fn read(&self, buf: &mut [u8], offset: u64) -> io::Result<()> {
-        if buf.len() as u64 > u64::MAX - offset {
-            return Err(io::Error::from(ErrorKind::InvalidInput));
-        }
-        HostFile::read_at(&self.file, buf, offset)
-    }
-
-    /// How many bytes the file has now, where it is known to be a regular one.
-    ///
-    /// A seek to the end tells it for less than the attributes do. Reads are at offsets, so nothing
-    /// depends on where it leaves the file. Where it is refused, the attributes still tell.
-    fn length(&mut self) -> Option<u64> {
-        match self.is_regular {
-            Some(false) => return None,
-            Some(true) => {
-                if let Ok(length) = (&self.file).seek(SeekFrom::End(0)) {
-                    return Some(length);
-                }
-            }
-            None => {}
-        }
-        let metadata = self.file.metadata().ok()?;
-        self.is_regular = Some(metadata.is_file());
-        metadata.is_file().then_some(metadata.len())
-    }
-}
-
-/// What a file is by its attributes.
-fn kind_of(metadata: &Metadata) -> FileKind {
-    let kind = metadata.file_type();
-    if kind.is_file() {
-        FileKind::Regular
-    } else if kind.is_block_device() {
-        FileKind::BlockDevice
-    } else {
-        FileKind::Other
-    }
-}
-
-/// How many bytes from the offset on, of at most that many, come before the end of a file of that
-/// length, and that they do; or how many are behind it. There is at least one.
-fn run_in(length: Option<u64>, offset: u64, most: u64) -> (u64, bool)
-    requires { 0 < most }
-    ensures some { 0 < result.0 }
-    ensures within { result.0 ≤ most }
-    ensures before { IfSome length
-        (λ n. «offset» < n → result ≡ (min most (n - «offset»), true)) }
-    ensures behind { IfSome length (λ n. n ≤ «offset» → result ≡ (most, false)) }
-    ensures unknown { IsNone length → result ≡ (most, true) }
-{
-    match length {
-        Some(length) if length <= offset => (most, false),
-        Some(length) => (most.min(length - offset), true),
-        None => (most, true),
-    }
-}
-
-/// How many bytes a device has; 0 where it can't be told.
-fn device_length(mut file: File) -> u64 {
-    file.seek(SeekFrom::End(0)).unwrap_or(0)
 }
 
 /// Writes those blocks of the data that aren't zero, in as few calls as there are runs of them.
@@ -296,39 +124,23 @@ impl<'a> Files for System<'a> {
     ghost contents = { λ _. None };
 
     fn alloc(&self) -> Global {
-        self.runtime.alloc()
+        self.files.alloc()
     }
 
     fn status(&self, path: &str) -> io::Result<FileStatus> {
-        let metadata = fs::metadata(self.runtime, path)?;
-        let kind = kind_of(&metadata);
-        let mut length = metadata.len();
-        if kind == FileKind::BlockDevice {
-            length = device_length(File::open(self.runtime, path)?);
-        }
-        Ok(FileStatus {
-            kind,
-            length,
-            device: metadata.dev(),
-            inode: metadata.ino(),
-        })
+        self.files.status(path)
     }
 
     fn read_at(&self, path: &str, buf: &mut [u8], offset: u64) -> io::Result<()> {
-        let open = self.open(path)?;
-        open.read(buf, offset)?;
-        self.keep(open);
-        Ok(())
+        self.files.read_at(path, buf, offset)
     }
 
     fn is_same_file(&self, one: &str, other: &str) -> io::Result<bool> {
-        let one = fs::metadata(self.runtime, one)?;
-        let other = fs::metadata(self.runtime, other)?;
-        Ok(one.dev() == other.dev() && one.ino() == other.ino())
+        self.files.is_same_file(one, other)
     }
 
     fn real_path(&self, path: &str) -> io::Result<String> {
-        Ok(fs::canonicalize(self.runtime, path)?.into_string())
+        self.files.real_path(path)
     }
 }
 
@@ -340,16 +152,11 @@ impl<'a> Host for System<'a> {
     ghost around = { λ _. None };
 
     fn run_at(&self, path: &str, offset: u64, most: u64) -> (u64, bool) {
-        let Ok(mut open) = self.open(path) else {
-            return (most, true);
-        };
-        let run = run_in(open.length(), offset, most);
-        self.keep(open);
-        run
+        self.files.run_at(path, offset, most)
     }
 
     fn size_on_disk(&self, path: &str) -> Option<u64> {
-        let metadata = fs::metadata(self.runtime, path).ok()?;
+        let metadata = fs::metadata(self.runtime(), path).ok()?;
         if kind_of(&metadata) != FileKind::Regular {
             return None;
         }
@@ -358,11 +165,11 @@ impl<'a> Host for System<'a> {
 
     // That something can't be shown is no failure of the copy.
     fn show_progress(&self, done: u64, total: u64, hundredths: u64) {
-        let _ = eprint!(self.runtime; "\r{done} of {total} bytes ({hundredths} %)");
+        let _ = eprint!(self.runtime(); "\r{done} of {total} bytes ({hundredths} %)");
     }
 
     fn end_progress(&self) {
-        let _ = eprintln!(self.runtime);
+        let _ = eprintln!(self.runtime());
     }
 
     fn left_over(&self, path: &str) -> io::Result<Option<LeftOver>> {
@@ -381,7 +188,7 @@ impl<'a> Host for System<'a> {
 
     fn remove_left_over(&mut self, path: &str) -> io::Result<()> {
         let left = self.unfinished(&self.final_path(path)?)?;
-        fs::remove_file(self.runtime, &left)
+        fs::remove_file(self.runtime(), &left)
     }
 
     fn create(&mut self, path: &str, size: u64, how: Making) -> io::Result<NewFile> {
@@ -399,7 +206,7 @@ impl<'a> Host for System<'a> {
 
     // The files that are kept open are closed, since one may be what the new file replaces.
     fn finish(&mut self, target: NewFile) -> io::Result<()> {
-        self.take_kept();
+        self.files.close_all();
         let named = self.name(&target);
         if named.is_err() {
             self.abandon(target);
@@ -409,12 +216,12 @@ impl<'a> Host for System<'a> {
 
     fn abandon(&mut self, target: NewFile) {
         if self.has_path(&target) {
-            let _ = fs::remove_file(self.runtime, &target.path);
+            let _ = fs::remove_file(self.runtime(), &target.path);
         }
     }
 
     fn open_existing(&mut self, path: &str) -> io::Result<ExistingFile> {
-        let file = OpenOptions::new().write(true).open(self.runtime, path)?;
+        let file = OpenOptions::new().write(true).open(self.runtime(), path)?;
         Ok(ExistingFile { file, at: 0 })
     }
 
@@ -423,7 +230,7 @@ impl<'a> Host for System<'a> {
     }
 
     fn set_length(&mut self, path: &str, length: u64) -> io::Result<()> {
-        let file = OpenOptions::new().write(true).open(self.runtime, path)?;
+        let file = OpenOptions::new().write(true).open(self.runtime(), path)?;
         file.set_len(length)
     }
 }
@@ -446,7 +253,7 @@ impl<'a> System<'a> {
 
     /// What has a path, if anything does. A link isn't followed.
     fn there(&self, path: &str) -> io::Result<Option<Metadata>> {
-        match fs::symlink_metadata(self.runtime, path) {
+        match fs::symlink_metadata(self.runtime(), path) {
             Ok(found) => Ok(Some(found)),
             Err(cause) if cause.kind() == ErrorKind::NotFound => Ok(None),
             Err(cause) => Err(cause),
@@ -475,7 +282,7 @@ impl<'a> System<'a> {
             .write(true)
             .create_new(true)
             .mode(if replaces { OWNER_ALONE } else { NEW_FILE })
-            .open(self.runtime, &path)?;
+            .open(self.runtime(), &path)?;
         Ok(NewFile {
             file,
             path,
@@ -493,11 +300,11 @@ impl<'a> System<'a> {
             return Err(io::Error::from(ErrorKind::NotFound));
         }
         if target.replaces {
-            return fs::rename(self.runtime, &target.path, &target.to);
+            return fs::rename(self.runtime(), &target.path, &target.to);
         }
-        match fs::hard_link(self.runtime, &target.path, &target.to) {
+        match fs::hard_link(self.runtime(), &target.path, &target.to) {
             Ok(()) => {
-                let _ = fs::remove_file(self.runtime, &target.path);
+                let _ = fs::remove_file(self.runtime(), &target.path);
                 Ok(())
             }
             Err(cause) if is_without_links(cause.kind()) => self.rename_to_free(target),
@@ -510,7 +317,7 @@ impl<'a> System<'a> {
         if self.there(&target.to)?.is_some() {
             return Err(io::Error::from(ErrorKind::AlreadyExists));
         }
-        fs::rename(self.runtime, &target.path, &target.to)
+        fs::rename(self.runtime(), &target.path, &target.to)
     }
 
     /// Whether a new file still has its unfinished path: another program may have removed it, and

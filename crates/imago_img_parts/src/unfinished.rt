@@ -4,16 +4,19 @@ ghost use Rattle.std.specs.Prelude.{◌≡◌, ◌<◌, ℕ, List, Some, OnOk, O
 ghost use Rattle.imago_images.specs.declared.files.FileStatus.{FileStatus};
 ghost use Rattle.imago_images.specs.Way.{identity};
 ghost use Rattle.imago_img_parts.specs.Files.{IsWithoutLeftOver};
-ghost use Rattle.imago_img_parts.specs.LeftOvers.{AreElsewhere, IsElsewhere, is_one_file};
+ghost use Rattle.imago_disk.specs.Disk.{image_of};
+ghost use Rattle.imago_disk.specs.Files.{is_one_file};
+ghost use Rattle.imago_img_parts.specs.LeftOvers.{AreElsewhere, IsElsewhere};
 
 use crate::failure::{Failure, Reason, Refusal};
 use crate::host::{FileStatus, Host, LeftOver};
-use crate::image::{has_file, is_same_file};
+use crate::image::{FileDisk, has_file};
 use imago_access::access::FormatAccess;
 use imago_any_driver::any::AnyDriver;
+use imago_disk::disk::Disk;
+use imago_disk::named::is_same_file;
 use imago_drivers::drivers::FormatDriverInstance;
 use imago_images::file::PathStorage;
-use imago_images::opener::FileImage;
 use imago_storage::storage::Storage;
 use std::io::ErrorKind;
 
@@ -40,23 +43,23 @@ pub(crate) fn remove_left_over<H: Host>(host: &mut H, to: &str) -> Result<(), Fa
 /// the file that one of their paths leads to by now.
 pub(crate) fn test_apart<'a, H: Host>(
     host: &H,
-    image: &FileImage<'a, H>,
+    disk: &FileDisk<'a, H>,
     left: &LeftOver,
 ) -> Result<(), Failure>
     ensures { OnOk result (IfSome (H.statuses host.now) (λ status_of.
         IsElsewhere ⟦<AnyDriver<PathStorage<'a, H>> as FormatDriverInstance>⟧.view status_of
-        (identity left.now.status) image.now)) }
+        (identity left.now.status) (image_of disk.now))) }
 {
-    if has_file(image, left.status) || leads_to_file(host, image, &left.path)? {
+    if has_file(disk, left.status) || leads_to_file(host, disk, &left.path)? {
         return Err(Failure::of_target(host.alloc(), &left.path, Refusal::IsSource));
     }
-    test_elsewhere(host, image, left)
+    test_elsewhere(host, disk, left)
 }
 
 /// Whether a path leads to a file of an image, as a link may by which the command line names it.
-fn leads_to_file<H: Host>(host: &H, image: &FileImage<'_, H>, path: &str) -> Result<bool, Failure> {
+fn leads_to_file<H: Host>(host: &H, disk: &FileDisk<'_, H>, path: &str) -> Result<bool, Failure> {
     match host.status(path) {
-        Ok(there) => Ok(has_file(image, there)),
+        Ok(there) => Ok(has_file(disk, there)),
         Err(cause) if cause.kind() == ErrorKind::NotFound => Ok(false),
         Err(cause) => Err(Failure::of_file(host.alloc(), path, Reason::System(cause))),
     }
@@ -64,15 +67,16 @@ fn leads_to_file<H: Host>(host: &H, image: &FileImage<'_, H>, path: &str) -> Res
 
 /// Whether no path of a file of an image leads to an unfinished file by now. What it led to when the
 /// image was opened is known to the image; the host is asked once more.
-fn test_elsewhere<H: Host, D: FormatDriverInstance>(
+fn test_elsewhere<H: Host, S: Storage>(
     host: &H,
-    image: &FormatAccess<D>,
+    disk: &Disk<S>,
     left: &LeftOver,
 ) -> Result<(), Failure>
     ensures { OnOk result (IfSome (H.statuses host.now) (λ status_of.
-        IsElsewhere D.view status_of (identity left.now.status) image.now)) }
+        IsElsewhere ⟦<AnyDriver<S> as FormatDriverInstance>⟧.view status_of
+        (identity left.now.status) (image_of disk.now))) }
 {
-    if chain_leads_to(host, image, left.status)? {
+    if chain_leads_to(host, disk.image(), left.status)? {
         return Err(Failure::of_target(host.alloc(), &left.path, Refusal::IsSource));
     }
     Ok(())

@@ -7,60 +7,30 @@
 ghost use Rattle.std.specs.Prelude.{◌≡◌, None};
 ghost use Rattle.imago.specs.Chain.{driver};
 
-use imago::images::{
-    Accepted, FileImage, ImageFormat, OpenError, Opening, OtherFiles, PathFile, PathStorage,
-    open_image,
-};
+use imago::images::{OpenError, Opening, PathFile, PathStorage};
 use imago::run::{Call, Reply, run};
 use imago::{FormatAccess, FormatDriverInstance, Storage, error};
-use imago_examples::by_path::SystemFiles;
+use imago_disk::disk::Disk;
+use imago_disk::system::SystemFiles;
 use imago_examples::files::{Image, copy_on_write, write_and_read};
 use imago_images::file::storage_of;
 use std::fs::File;
 use std::process::ExitCode;
 
-/// An image that was opened by its path.
-#[derive(Drop)]
-struct Disk<'a> {
-    path: &'a str,
-    format: ImageFormat,
-    image: FileImage<'a, SystemFiles<'a>>,
-}
-
-/// Opens the image of a path, with the files that it names in its own folder.
-fn open<'a>(host: &'a SystemFiles<'a>, path: &'a str) -> Result<Disk<'a>, OpenError> {
-    let how = Opening {
-        format: None,
-        accepted: Accepted::EVERYTHING,
-        other_files: OtherFiles::InFolder,
-        tables: Some(64 << 20),
-        longest: None,
-    };
-    let (format, image) = open_image(host, path, how)?;
-    Ok(Disk {
-        path,
-        format,
-        image,
-    })
-}
-
-/// Prints the name, the size and the first nine bytes of an image of any driver.
-fn show<D: FormatDriverInstance>(
-    rt: &HostRuntime,
-    name: &str,
-    image: &FormatAccess<D>,
-) -> Result<(), error::Error> {
+/// Prints what the disk of the image of a path begins with, with the format and the size.
+fn show(rt: &HostRuntime, path: &str) -> Result<(), OpenError> {
+    let host = SystemFiles::new(rt);
+    let disk = Disk::open(&host, path, Opening::new())?;
     let mut buf = [0; 9];
-    image.read(rt.alloc(), &mut buf, 0)?;
-    let text = str::from_utf8(&buf).unwrap_or("no text");
-    let _ = println!(rt; "{name}: {} bytes, {text:?}", image.size());
+    let _ = match disk.read(&mut buf, 0) {
+        Ok(()) => {
+            let text = str::from_utf8(&buf).unwrap_or("no text");
+            let format = disk.format().name();
+            println!(rt; "{format} {path}: {} bytes, {text:?}", disk.size())
+        }
+        Err(cause) => println!(rt; "{path}: {cause}"),
+    };
     Ok(())
-}
-
-/// Prints the format of an image that was opened by its path, and what it begins with.
-fn show_disk(rt: &HostRuntime, disk: &Disk) -> Result<(), OpenError> {
-    let _ = print!(rt; "{} ", disk.format.name());
-    OpenError::or_image(rt.alloc(), disk.path, show(rt, disk.path, &disk.image))
 }
 
 /// A new file of that path, empty, as a storage that is written.
@@ -130,25 +100,36 @@ fn change_above<S: Storage>(
     let mut image = copy_on_write(rt.alloc(), data, below)?;
     let _ = println!(rt; "{}", image.chain_text());
     change(rt, &mut image)?;
-    show(rt, "changed", &image)
+    show_changed(rt, &image)
+}
+
+/// Prints the size and the first nine bytes of an image of any driver.
+fn show_changed<D: FormatDriverInstance>(
+    rt: &HostRuntime,
+    image: &FormatAccess<D>,
+) -> Result<(), error::Error> {
+    let mut buf = [0; 9];
+    image.read(rt.alloc(), &mut buf, 0)?;
+    let text = str::from_utf8(&buf).unwrap_or("no text");
+    let _ = println!(rt; "changed: {} bytes, {text:?}", image.size());
+    Ok(())
 }
 
 /// Changes a disk above the overlay, whose data stands in a new file.
 fn use_overlay<'a>(rt: &HostRuntime, host: &'a SystemFiles<'a>) -> Result<(), OpenError> {
-    let below = open(host, "overlay.qcow2")?;
+    let below = Disk::open(host, "overlay.qcow2", Opening::new())?;
     let data = new_file(rt, host, "changes.raw")?;
-    let changed = change_above(rt, data, below.image);
+    let changed = change_above(rt, data, below.into_image());
     OpenError::or_image(rt.alloc(), "changes.raw", changed)
 }
 
 /// All that the tool does.
 fn use_images(rt: &HostRuntime) -> Result<(), OpenError> {
-    let host = SystemFiles::new(rt);
-    show_disk(rt, &open(&host, "disk.raw")?)?;
-    show_disk(rt, &open(&host, "overlay.qcow2")?)?;
-    show_disk(rt, &open(&host, "disk.vmdk")?)?;
-    use_overlay(rt, &host)?;
-    show_disk(rt, &open(&host, "overlay.qcow2")?)
+    show(rt, "disk.raw")?;
+    show(rt, "overlay.qcow2")?;
+    show(rt, "disk.vmdk")?;
+    use_overlay(rt, &SystemFiles::new(rt))?;
+    show(rt, "overlay.qcow2")
 }
 
 fn main(rt: HostRuntime) -> ExitCode {

@@ -1,6 +1,7 @@
 -- SPDX-License-Identifier: MIT
 use Rattle.imago_any_driver.specs.AnyDriver.{view_over}
 use Rattle.imago_file.specs.StorageParts.{faults_of}
+use Rattle.imago_disk.specs.Disk.{image_of, format_of}
 use Rattle.imago_images.proofs.PathSteps.{features_of, bytes_of}
 use Rattle.imago_images.specs.Way.{identity}
 use Rattle.imago_img_parts.proofs.Elsewhere.{no_source}
@@ -12,5 +13,5 @@ returns g c =
     let opened = g.H.File.HostFile.contents in
     no_source (view_over (features_of contents opened) faults_of (bytes_of contents opened)) c.args.how
     (contents c.args.host.now) (g.H.Files.statuses c.args.host.now) c.args.path.now
-    (identity c.args.left.now.status) c.in_ok-image.field-0-0 c.in_ok-image.image c.test_apart.result
-    c.in_ok-image.ensures.format c.in_ok-image.ensures.files c.test_apart.ensures
+    (identity c.args.left.now.status) (format_of c.in_ok-disk.disk) (image_of c.in_ok-disk.disk) c.test_apart.result
+    c.in_ok-disk.ensures.format c.in_ok-disk.ensures.files c.test_apart.ensures

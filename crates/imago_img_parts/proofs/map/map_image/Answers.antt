@@ -1,6 +1,7 @@
 -- SPDX-License-Identifier: MIT
 use Rattle.imago_any_driver.specs.AnyDriver.{view_over}
 use Rattle.imago_file.specs.StorageParts.{faults_of}
+use Rattle.imago_disk.specs.Disk.{image_of, format_of}
 use Rattle.imago_images.proofs.PathSteps.{features_of, bytes_of}
 use Rattle.imago_img_parts.proofs.Disks.{image_there}
 use Rattle.imago_img_parts.proofs.NewFiles.{always}
@@ -12,5 +13,5 @@ returns-in-Ok g c =
     let opened = g.H.File.HostFile.contents in
     always c.map_err.result
     (image_there (view_over (features_of contents opened) faults_of (bytes_of contents opened)) c.args.how
-    (contents c.args.host.now) c.args.path.now c.in_ok-image.field-0-0 c.in_ok-image.image
-    c.in_ok-image.ensures.format c.in_ok-image.ensures.image)
+    (contents c.args.host.now) c.args.path.now (format_of c.in_ok-disk.disk) (image_of c.in_ok-disk.disk)
+    c.in_ok-disk.ensures.format c.in_ok-disk.ensures.image)

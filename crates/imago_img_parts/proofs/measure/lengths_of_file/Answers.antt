@@ -1,6 +1,7 @@
 -- SPDX-License-Identifier: MIT
 use Rattle.imago_any_driver.specs.AnyDriver.{view_over}
 use Rattle.imago_file.specs.StorageParts.{faults_of}
+use Rattle.imago_disk.specs.Disk.{image_of, format_of}
 use Rattle.imago_images.proofs.PathSteps.{features_of, bytes_of}
 use Rattle.imago_img_parts.specs.Openings.{how_by}
 use Rattle.imago_img_parts.proofs.Disks.{image_there, image_as_said}
@@ -12,9 +13,9 @@ returns g c =
     let contents = g.H.Files.contents in
     let opened = g.H.File.HostFile.contents in
     let how = c.how_to_open-how.result in
-    always c.lengths_of_image.result
+    always c.lengths_of_disk.result
     (image_as_said how (how_by c.args.asked.source_format c.args.asked.opening) c.how_to_open-how.ensures
     (contents c.args.host.now) c.args.file.now
     (image_there (view_over (features_of contents opened) faults_of (bytes_of contents opened)) how
-    (contents c.args.host.now) c.args.file.now c.in_ok-image.field-0-0 c.in_ok-image.image
-    c.in_ok-image.ensures.format c.in_ok-image.ensures.image))
+    (contents c.args.host.now) c.args.file.now (format_of c.in_ok-disk.disk) (image_of c.in_ok-disk.disk)
+    c.in_ok-disk.ensures.format c.in_ok-disk.ensures.image))

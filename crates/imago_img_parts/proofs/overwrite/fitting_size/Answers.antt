@@ -1,6 +1,7 @@
 -- SPDX-License-Identifier: MIT
 use Rattle.imago_any_driver.specs.AnyDriver.{view_over}
 use Rattle.imago_file.specs.StorageParts.{faults_of}
+use Rattle.imago_disk.specs.Disk.{image_of, format_of}
 use Rattle.imago_images.proofs.PathSteps.{features_of, bytes_of}
 use Rattle.imago_img_parts.proofs.Disks.{sized}
 use Rattle.imago_img_parts.proofs.overwrite.fitting_size.Goals as goal
@@ -10,5 +11,5 @@ returns-clause-size g c =
     let contents = g.H.Files.contents in
     let opened = g.H.File.HostFile.contents in
     sized (view_over (features_of contents opened) faults_of (bytes_of contents opened)) c.args.how (contents c.args.host.now) c.args.from.now
-    c.in_ok-image.field-0-0 c.in_ok-image.image c.in_ok-size.size c.in_ok-size.ensures
-    c.in_ok-image.ensures.format c.in_ok-image.ensures.image
+    (format_of c.in_ok-disk.disk) (image_of c.in_ok-disk.disk) c.in_ok-size.size c.in_ok-size.ensures
+    c.in_ok-disk.ensures.format c.in_ok-disk.ensures.image

@@ -1,6 +1,6 @@
 -- SPDX-License-Identifier: MIT
 use Rattle.std.proofs.Common.{◌-◌, ◌≤◌}
-use Rattle.imago_img_parts.proofs.streams.layer_at.Given as goal
+use Rattle.imago_disk.proofs.layers.layer_at.Given as goal
 
 abbrev pub invariant-loop-done : goal.invariant-loop-done
 invariant-loop-done g l = l.done ≤ l.depth

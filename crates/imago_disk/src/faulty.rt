@@ -2,12 +2,12 @@
 //! The entries of qcow2 files by which images aren't read: where they stand, and what is wrong with
 //! them. They are looked for once an image was refused, so only then does this cost time.
 
-use crate::host::Host;
-use crate::layer_files::FileDriver;
+use crate::layers::FileDriver;
 use crate::streams::qcow2_in;
 use imago_access::access::FormatAccess;
 use imago_drivers::drivers::FormatDriverInstance;
 use imago_images::file::look_at;
+use imago_images::files::Files;
 use imago_qcow2_check::check::{Limits, check};
 use imago_qcow2_check::fault::Fault;
 use imago_storage::storage::Storage;
@@ -31,13 +31,13 @@ fn is_invalid_entry(fault: &Fault) -> bool {
 }
 
 /// The first invalid entry of the file of that path.
-pub fn invalid_entry_at<H: Host>(host: &H, path: &str) -> Option<Fault> {
+pub fn invalid_entry_at<H: Files>(host: &H, path: &str) -> Option<Fault> {
     let file = look_at(host, path).ok()?;
     invalid_entry(host.alloc(), &file)
 }
 
 /// The first file of an image that has an invalid entry, and its first one.
-pub fn invalid_entry_in<D: FileDriver>(
+pub(crate) fn invalid_entry_in<D: FileDriver>(
     alloc: Global,
     image: &FormatAccess<D>,
 ) -> Option<(&str, Fault)> {

@@ -2,7 +2,7 @@
 use Rattle.std.proofs.Common.{◌≡◌, ◌-◌}
 use Rattle.imago_access.specs.Chain.{driver}
 use Rattle.imago_copy.specs.RunsOf.{image_of, at_of, IsReady}
-use Rattle.imago_img_parts.proofs.streams.unoffered_in.Given as goal
+use Rattle.imago_disk.proofs.streams.unoffered_in.Given as goal
 
 abbrev pub invariant-loop-run : goal.invariant-loop-run
 invariant-loop-run g l =

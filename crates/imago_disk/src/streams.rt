@@ -6,37 +6,22 @@
 //! files too. For faulty streams it is looked at again once a read was refused. So only then do
 //! these cost time.
 
-use crate::failure::ClusterFault;
-use crate::layer_files::FileDriver;
+use crate::cause::ClusterFault;
+use crate::layers::{FileDriver, layer_at};
 use crate::short::{ShortFile, ShortFiles, short_file};
 use imago_access::access::FormatAccess;
 use imago_copy::runs::{Kind, Run, Runs};
-use imago_drivers::drivers::{Format, FormatDriverInstance};
+use imago_drivers::drivers::Format;
 use imago_qcow2::header::Compression;
 use imago_qcow2::qcow2::Qcow2;
 use imago_storage::error::Error;
 use imago_storage::storage::Storage;
 use std::alloc::Global;
 
-/// The layer of that depth, if the chain goes as far: 0 is the top one.
-fn layer_at<D: FormatDriverInstance>(
-    image: &FormatAccess<D>,
-    depth: usize,
-) -> Option<&FormatAccess<D>> {
-    let mut layer = image;
-    let mut done: usize = 0;
-    while done < depth {
-        match layer.backing() {
-            Some(below) => layer = below,
-            None => return None,
-        }
-        done += 1;
-    }
-    Some(layer)
-}
-
 /// The path of the file that a layer stands in, and its driver, if it is a qcow2 image.
-pub fn qcow2_in<D: FileDriver>(layer: &FormatAccess<D>) -> Option<(&str, &Qcow2<D::Storage>)> {
+pub(crate) fn qcow2_in<D: FileDriver>(
+    layer: &FormatAccess<D>,
+) -> Option<(&str, &Qcow2<D::Storage>)> {
     let qcow2 = layer.inner().qcow2()?;
     let (path, _) = layer.inner().file(0)?;
     Some((path, qcow2))
@@ -110,7 +95,7 @@ fn are_sound<D: FileDriver>(image: &FormatAccess<D>) -> bool {
 ///
 /// Most disks have no such cluster and no such file, and a look at the tables of each layer by
 /// itself shows so. Only where it doesn't is the disk gone through run by run.
-pub fn unoffered_in<'b, D: FileDriver>(
+pub(crate) fn unoffered_in<'b, D: FileDriver>(
     image: &'b FormatAccess<D>,
     short: &mut ShortFiles<'b>,
 ) -> Result<Option<(&'b str, u64)>, Error> {
@@ -133,7 +118,7 @@ pub fn unoffered_in<'b, D: FileDriver>(
 /// The first compressed cluster of a disk that can't be decoded: the file that has it, where it
 /// begins on the disk, and its fault. There is none where the disk can't be read for another
 /// reason.
-pub fn stream_fault_in<D: FileDriver>(
+pub(crate) fn stream_fault_in<D: FileDriver>(
     alloc: Global,
     image: &FormatAccess<D>,
 ) -> Option<(&str, u64, ClusterFault)> {

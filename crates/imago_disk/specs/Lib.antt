@@ -1,0 +1,4 @@
+-- SPDX-License-Identifier: MIT
+pub mod Disk
+pub mod Files
+pub mod Shows
