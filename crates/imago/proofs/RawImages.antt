@@ -11,6 +11,7 @@ use Rattle.imago_drivers.specs.Raw.{raw_view, raw_cause, raw_offers}
 use Rattle.imago_drivers.specs.RawLaws.{raw_in, raw_lower}
 use Rattle.imago_drivers.specs.Reasons.{allowed}
 use Rattle.imago_drivers.specs.Room.{HasRoom, IsPadded}
+use Rattle.imago_drivers.specs.declared.mapping.Ticket.{Ticket}
 use Rattle.imago_drivers.specs.View.{View, EndsIn}
 use Rattle.imago_access.specs.declared.access.FormatAccess.{FormatAccess, FormatAccess', Held-FormatAccess-backing, None', Some', is-FormatAccess'}
 use Rattle.imago_access.specs.declared.mapping.Mapping.{Mapping}
@@ -65,7 +66,7 @@ module _ {D St : Type 0} (view : D → View St) (never_fails : (d : D) → (view
 
 -- Images of raw drivers over storages that never fail, by their drivers' features, bytes, size, writability and count of faults.
 module _ {R : Type 0} (f : R → Features) (bytes : R → List ℕ) (size : R → ℕ) (writable : R → Bool) (faults : R → ℕ) (never_fails : (r : R) → (f r).is_reliable ≡ true) (no_faults : (r : R) → faults r ≡ 0) where
-  abbrev pub raw_images : R → View Unit
+  abbrev pub raw_images : R → View Ticket
   raw_images r = raw_view (f r) (faults r) (bytes r) (size r) (writable r)
 
   leads_nowhere : (r : R) (p q : ℕ) (w : Bool) → (raw_images r).place p ≡ Lower q w → ⊥

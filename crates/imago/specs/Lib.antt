@@ -95,7 +95,6 @@ pub use Rattle.imago_cow.specs.CowCalls
 pub use Rattle.imago_cow.specs.Grown as GrownBlocks
 pub use Rattle.imago_cow.specs.Copies as CopiedBlocks
 pub use Rattle.imago_cow.specs.Worked as WorkedDataBlocks
-pub use Rattle.imago_any_driver.specs.Restated as RestatedViews
 pub use Rattle.imago_any_driver.specs.AnyCalls
 pub use Rattle.imago_any_driver.specs.AnyDriver
 pub use Rattle.imago_access.specs.Chain
@@ -158,6 +157,8 @@ pub use Rattle.imago_images.specs.Images as FileImages
 pub use Rattle.imago_images.specs.Way as FilesAbove
 pub use Rattle.imago_images.specs.Refusals as ImageRefusals
 pub use Rattle.imago_images.specs.Chains as FileChains
+pub use Rattle.imago_disk.specs.Disk as DiskParts
+pub use Rattle.imago_disk.specs.Shows as FileDisks
 -- The types of these items, under their own names; 'Declared' stands before one that a file of
 -- definitions above has too.
 pub use Rattle.imago_storage.specs.declared.error.Error as DeclaredError
@@ -172,6 +173,7 @@ pub use Rattle.imago_drivers.specs.declared.format.Format
 pub use Rattle.imago_drivers.specs.declared.format.PreallocateMode
 pub use Rattle.imago_drivers.specs.declared.mapping.ShallowMapping
 pub use Rattle.imago_drivers.specs.declared.mapping.PreparedDataMapping
+pub use Rattle.imago_drivers.specs.declared.mapping.Ticket
 pub use Rattle.imago_drivers.specs.declared.raw.Raw as DeclaredRaw
 pub use Rattle.imago_drivers.specs.declared.gate.NamedGate as DeclaredNamedGate
 pub use Rattle.imago_drivers.specs.declared.builder.FormatDriverBuilderBase
@@ -187,7 +189,6 @@ pub use Rattle.imago_qcow2.specs.declared.qcow2.Qcow2 as DeclaredQcow2
 pub use Rattle.imago_cow.specs.declared.table.GuestBlock
 pub use Rattle.imago_cow.specs.declared.table.WithoutData
 pub use Rattle.imago_cow.specs.declared.cow.Cow as DeclaredCow
-pub use Rattle.imago_cow.specs.declared.cow.CowState
 pub use Rattle.imago_cow.specs.declared.cow.Waiting as WaitingWrite
 pub use Rattle.imago_any_driver.specs.declared.any.AnyDriver as DeclaredAnyDriver
 pub use Rattle.imago_access.specs.declared.access.FormatAccess
@@ -214,3 +215,4 @@ pub use Rattle.imago_images.specs.declared.opening.Opening as DeclaredOpening
 pub use Rattle.imago_images.specs.declared.opening.OtherFiles
 pub use Rattle.imago_images.specs.declared.failure.OpenError
 pub use Rattle.imago_images.specs.declared.failure.Reason
+pub use Rattle.imago_disk.specs.declared.disk.Disk as DeclaredDisk

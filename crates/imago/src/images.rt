@@ -3,7 +3,7 @@
 
 pub use imago_images::confined::{Confined, Reach};
 pub use imago_images::failure::{OpenError, Reason};
-pub use imago_images::file::{PathFile, PathStorage};
+pub use imago_images::file::{PathFile, PathStorage, storage_of};
 pub use imago_images::files::{FileKind, FileStatus, Files, WritableFiles};
 pub use imago_images::format::ImageFormat;
 pub use imago_images::guarded::{GuardedFiles, GuardedWritableFiles};

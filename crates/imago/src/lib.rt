@@ -5,8 +5,8 @@
 //! reads and writes the disk of a driver and of the images below it. Names and modules are those of
 //! the Rust crate imago; everything here but [`laws`] is defined in `imago_storage`,
 //! `imago_drivers`, `imago_vmdk`, `imago_qcow2`, `imago_cow`, `imago_any_driver`, `imago_access`,
-//! `imago_file`, `imago_copy`, `imago_plan` and `imago_images`, and their documentation says what
-//! each item does.
+//! `imago_file`, `imago_copy`, `imago_plan`, `imago_images` and `imago_disk`, and their documentation
+//! says what each item does.
 //!
 //! A contract over these items names what it needs by this crate alone: definitions as
 //! `Rattle.imago.specs.Bytes.{splice}`, and types as `Rattle.imago.specs.MemStorage.{MemStorage}`.
@@ -15,6 +15,7 @@
 
 pub mod access;
 pub mod copy;
+pub mod disk;
 pub mod file;
 pub mod format;
 pub mod images;

@@ -9,9 +9,7 @@ use Rattle.imago_drivers.specs.LayerBelow.{LayerBelow}
 use Rattle.imago_drivers.specs.declared.raw.Raw.{Raw as RawImage}
 use Rattle.imago_vmdk.specs.declared.vmdk.Vmdk.{Vmdk as VmdkImage}
 use Rattle.imago_cow.specs.declared.cow.Cow.{Cow as CowImage}
-use Rattle.imago_cow.specs.declared.cow.CowState.{CowState}
 use Rattle.imago_qcow2.specs.declared.qcow2.Qcow2.{Qcow2 as Qcow2Image}
-use Rattle.imago_any_driver.specs.Restated.{restated_calls}
 use Rattle.imago_any_driver.specs.declared.any.AnyDriver.{AnyDriver}
 use Rattle.imago_any_driver.specs.declared.any.AnyDriver.TheVariants.{Raw, Vmdk, Cow, Qcow2}
 
@@ -192,8 +190,8 @@ module _ {S St : Type 0} {g : _} {h : _} (r : Calls (RawImage S g h) St)
     parts_by_format (Qcow2 old) now result parts = qcow2_by_parts old now result parts
 
   -- each call is that of the driver that it is
-  abbrev pub calls_of_formats : Calls (AnyDriver S g h) St
-  calls_of_formats = record {
+  abbrev pub calls_by_format : Calls (AnyDriver S g h) St
+  calls_by_format = record {
     mapped = λ o n. asked (r.mapped o n) (v.mapped o n) (c.mapped o n) (q.mapped o n);
     read = λ index o n. asked (r.read index o n) (v.read index o n) (c.read index o n)
         (q.read index o n);
@@ -223,11 +221,3 @@ module _ {S St : Type 0} {g : _} {h : _} (r : Calls (RawImage S g h) St)
     synced = changed r.synced v.synced c.synced q.synced;
     invalidated = changed r.invalidated v.invalidated c.invalidated q.invalidated;
   }
-
--- Each call is that of the driver that it is. A raw, VMDK or qcow2 image has mappings without a
--- state alone, and one with a state is foreign to it.
-abbrev pub calls_by_format : {S : Type 0} {g : _} {h : _} → Calls (RawImage S g h) Unit
-    → Calls (VmdkImage S g h) Unit → Calls (CowImage S g h) CowState
-    → Calls (Qcow2Image S g h) Unit → Calls (AnyDriver S g h) CowState
-calls_by_format r v c q = calls_of_formats (restated_calls r) (restated_calls v) c
-    (restated_calls q)

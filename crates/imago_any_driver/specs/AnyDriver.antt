@@ -9,6 +9,7 @@ use Rattle.imago_drivers.specs.RawLaws.{raw_lawful, raw_causes}
 use Rattle.imago_drivers.specs.Reasons.{Reasons}
 use Rattle.imago_drivers.specs.View.{View}
 use Rattle.imago_drivers.specs.declared.format.Format.{Format}
+use Rattle.imago_drivers.specs.declared.mapping.Ticket.{Ticket}
 use Rattle.imago_drivers.specs.declared.raw.Raw.{Raw as RawImage}
 use Rattle.imago_vmdk.specs.Vmdk.{vmdk_view}
 use Rattle.imago_vmdk.specs.VmdkLaws.{vmdk_lawful, vmdk_causes}
@@ -19,12 +20,10 @@ use Rattle.imago_cow.specs.CowLaws.{cow_lawful, cow_causes}
 use Rattle.imago_cow.specs.TableView.{entries_of, count_of}
 use Rattle.imago_cow.specs.TableLaws.{named_once}
 use Rattle.imago_cow.specs.declared.cow.Cow.{Cow as CowImage}
-use Rattle.imago_cow.specs.declared.cow.CowState.{CowState}
 use Rattle.imago_qcow2.specs.Qcow2.{loaded_view}
 use Rattle.imago_qcow2.specs.Qcow2Image.{storage_in as qcow2_storage, loaded_in}
 use Rattle.imago_qcow2.specs.Qcow2Laws.{qcow2_lawful, qcow2_causes}
 use Rattle.imago_qcow2.specs.declared.qcow2.Qcow2.{Qcow2 as Qcow2Image}
-use Rattle.imago_any_driver.specs.Restated.{restated, restated_lawful, restated_causes}
 use Rattle.imago_any_driver.specs.declared.any.AnyDriver.{AnyDriver}
 use Rattle.imago_any_driver.specs.declared.any.AnyDriver.TheVariants.{Raw, Vmdk, Cow, Qcow2}
 
@@ -45,15 +44,14 @@ module _ {S : Type 0} {g : _} {h : _} where
   abbrev pub HoldsQcow2 : Qcow2Image S g h → AnyDriver S g h → Type 0
   HoldsQcow2 driver it = it ≡ Qcow2 driver
 
--- The view of the driver that it is. One without states is seen as one whose mappings may hold
--- some.
-abbrev pub view_by_format : {S : Type 0} {g : _} {h : _} → (RawImage S g h → View Unit)
-    → (VmdkImage S g h → View Unit) → (CowImage S g h → View CowState)
-    → (Qcow2Image S g h → View Unit) → AnyDriver S g h → View CowState
-view_by_format raw vmdk cow qcow2 (Raw driver) = restated (raw driver)
-view_by_format raw vmdk cow qcow2 (Vmdk driver) = restated (vmdk driver)
+-- the view of the driver that it is
+abbrev pub view_by_format : {S : Type 0} {g : _} {h : _} → (RawImage S g h → View Ticket)
+    → (VmdkImage S g h → View Ticket) → (CowImage S g h → View Ticket)
+    → (Qcow2Image S g h → View Ticket) → AnyDriver S g h → View Ticket
+view_by_format raw vmdk cow qcow2 (Raw driver) = raw driver
+view_by_format raw vmdk cow qcow2 (Vmdk driver) = vmdk driver
 view_by_format raw vmdk cow qcow2 (Cow driver) = cow driver
-view_by_format raw vmdk cow qcow2 (Qcow2 driver) = restated (qcow2 driver)
+view_by_format raw vmdk cow qcow2 (Qcow2 driver) = qcow2 driver
 
 -- Which format bytes have: qcow2 where they look like a qcow2 file's, else VMDK where they look
 -- like a descriptor's, else raw.
@@ -79,34 +77,34 @@ reasons_of_both a b = record {
 
 -- a raw image over a storage that shows these features, counts of faults and bytes
 abbrev pub raw_in : {S : Type 0} {g : _} {h : _} → (S → Features) → (S → ℕ) → (S → List ℕ)
-    → RawImage S g h → View Unit
+    → RawImage S g h → View Ticket
 raw_in features fault_count bytes r =
     raw_view (features (raw_storage r)) (fault_count (raw_storage r)) (bytes (raw_storage r))
     (size_of r) (writability_of r)
 
 -- a VMDK image over storages that show these features and bytes
 abbrev pub vmdk_in : {S : Type 0} {g : _} {h : _} → (S → Features) → (S → List ℕ)
-    → VmdkImage S g h → View Unit
+    → VmdkImage S g h → View Ticket
 vmdk_in features bytes v =
     vmdk_view (features v.descriptor ∷ map features v.storages.items)
     (bytes v.descriptor ∷ map bytes v.storages.items) v.opened v.extents.items
 
 -- a copy-on-write disk over a storage that shows these features, counts of faults and bytes
 abbrev pub cow_in : {S : Type 0} {g : _} {h : _} → (S → Features) → (S → ℕ) → (S → List ℕ)
-    → CowImage S g h → View CowState
+    → CowImage S g h → View Ticket
 cow_in features fault_count bytes d =
     cow_view (features d.storage) (fault_count d.storage + d.faults) (bytes d.storage) d.size
     (block_of d) (entries_of d.table) (count_of d.table) d.waiting
 
 -- a qcow2 image that was loaded from a storage that shows these features and bytes
 abbrev pub qcow2_in : {S : Type 0} {g : _} {h : _} → (S → Features) → (S → List ℕ)
-    → Qcow2Image S g h → View Unit
+    → Qcow2Image S g h → View Ticket
 qcow2_in features bytes d =
     loaded_view (features (qcow2_storage d)) (bytes (qcow2_storage d)) (loaded_in d)
 
 -- the view of a driver over storages that show these features, counts of faults and bytes
 abbrev pub view_over : {S : Type 0} {g : _} {h : _} → (S → Features) → (S → ℕ) → (S → List ℕ)
-    → AnyDriver S g h → View CowState
+    → AnyDriver S g h → View Ticket
 view_over features fault_count bytes =
     view_by_format (raw_in features fault_count bytes) (vmdk_in features bytes)
     (cow_in features fault_count bytes) (qcow2_in features bytes)
@@ -116,26 +114,24 @@ module _ {S : Type 0} {g : _} {h : _} (features : S → Features) (fault_count :
   -- the laws of each format are those of a driver, over lawful storages
   pub formats_lawful : ((s : S) → AreLawful (features s)) → (d : AnyDriver S g h)
       → IsLawful (view_over features fault_count bytes d)
-  formats_lawful lawful (Raw r) = restated_lawful (raw_in features fault_count bytes r)
-      (raw_lawful (features (raw_storage r)) (fault_count (raw_storage r)) (bytes (raw_storage r))
-      (size_of r) (writability_of r) (lawful (raw_storage r)))
-  formats_lawful lawful (Vmdk v) = restated_lawful (vmdk_in features bytes v)
-      (vmdk_lawful (features v.descriptor ∷ map features v.storages.items)
-      (bytes v.descriptor ∷ map bytes v.storages.items) v.opened v.extents.items)
+  formats_lawful lawful (Raw r) = raw_lawful (features (raw_storage r))
+      (fault_count (raw_storage r)) (bytes (raw_storage r)) (size_of r) (writability_of r)
+      (lawful (raw_storage r))
+  formats_lawful lawful (Vmdk v) = vmdk_lawful
+      (features v.descriptor ∷ map features v.storages.items)
+      (bytes v.descriptor ∷ map bytes v.storages.items) v.opened v.extents.items
   formats_lawful lawful (Cow d) = cow_lawful (features d.storage) (fault_count d.storage + d.faults)
       (bytes d.storage) d.size (block_of d) (entries_of d.table) (count_of d.table) d.waiting
       d.positive d.exact.covers (named_once d.table) (lawful d.storage)
-  formats_lawful lawful (Qcow2 d) = restated_lawful (qcow2_in features bytes d)
-      (qcow2_lawful (features (qcow2_storage d)) (bytes (qcow2_storage d)) (loaded_in d))
+  formats_lawful lawful (Qcow2 d) = qcow2_lawful (features (qcow2_storage d))
+      (bytes (qcow2_storage d)) (loaded_in d)
 
   pub formats_causes : (d : AnyDriver S g h) → AreCauses (view_over features fault_count bytes d)
-  formats_causes (Raw r) = restated_causes (raw_in features fault_count bytes r)
-      (raw_causes (features (raw_storage r)) (fault_count (raw_storage r)) (bytes (raw_storage r))
-      (size_of r) (writability_of r))
-  formats_causes (Vmdk v) = restated_causes (vmdk_in features bytes v)
-      (vmdk_causes (features v.descriptor ∷ map features v.storages.items)
-      (bytes v.descriptor ∷ map bytes v.storages.items) v.opened v.extents.items)
+  formats_causes (Raw r) = raw_causes (features (raw_storage r)) (fault_count (raw_storage r))
+      (bytes (raw_storage r)) (size_of r) (writability_of r)
+  formats_causes (Vmdk v) = vmdk_causes (features v.descriptor ∷ map features v.storages.items)
+      (bytes v.descriptor ∷ map bytes v.storages.items) v.opened v.extents.items
   formats_causes (Cow d) = cow_causes (features d.storage) (fault_count d.storage + d.faults)
       (bytes d.storage) d.size (block_of d) (entries_of d.table) (count_of d.table) d.waiting
-  formats_causes (Qcow2 d) = restated_causes (qcow2_in features bytes d)
-      (qcow2_causes (features (qcow2_storage d)) (bytes (qcow2_storage d)) (loaded_in d))
+  formats_causes (Qcow2 d) = qcow2_causes (features (qcow2_storage d)) (bytes (qcow2_storage d))
+      (loaded_in d)

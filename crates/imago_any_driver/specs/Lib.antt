@@ -1,4 +1,3 @@
 -- SPDX-License-Identifier: MIT
-pub mod Restated
 pub mod AnyCalls
 pub mod AnyDriver

@@ -1,9 +1,8 @@
 // SPDX-License-Identifier: MIT
 //! The driver of images of any format.
-ghost use Rattle.std.specs.Prelude.{◌≡◌, None, false, IfOk, IfErr, IsErrOf, IsTrue};
+ghost use Rattle.std.specs.Prelude.{◌≡◌, false, IfOk, IfErr, IsErrOf, IsTrue};
 ghost use Rattle.imago_storage.specs.Error.{IsExtRefusal};
 ghost use Rattle.imago_drivers.specs.Commit.{IsCommit, IsCancel};
-ghost use Rattle.imago_drivers.specs.Parts.{storage_of, offset_of, length_of, state_of};
 ghost use Rattle.imago_drivers.specs.Reasons.{allowed};
 ghost use Rattle.imago_any_driver.specs.AnyCalls.{calls_by_format};
 ghost use Rattle.imago_any_driver.specs.AnyDriver.{view_by_format, detected};
@@ -11,9 +10,9 @@ ghost use Rattle.imago_any_driver.specs.AnyDriver.{either, reasons_of_both};
 ghost use Rattle.imago_any_driver.specs.AnyDriver.{HoldsRaw, HoldsVmdk, HoldsCow, HoldsQcow2};
 ghost use Rattle.imago_any_driver.specs.AnyDriver.{formats_lawful, formats_causes};
 
-use imago_cow::cow::{Cow, CowState};
+use imago_cow::cow::Cow;
 use imago_drivers::drivers::{
-    Format, FormatDriverInstance, PreallocateMode, PreparedDataMapping, ShallowMapping,
+    Format, FormatDriverInstance, PreallocateMode, PreparedDataMapping, ShallowMapping, Ticket,
 };
 use imago_drivers::layer::LowerLayer;
 use imago_drivers::raw::Raw;
@@ -24,8 +23,7 @@ use imago_vmdk::vmdk::Vmdk;
 use std::alloc::Global;
 use std::fmt::{self, Display, Formatter, Write};
 
-/// The driver of an image of any format. It is the driver inside in every respect, but for what its
-/// prepared mappings may hold: one with a state is foreign to a driver inside that gives none.
+/// The driver of an image of any format: in every respect the driver inside.
 #[derive(Drop)]
 pub enum AnyDriver<S: Storage> {
     /// A raw image, whose mappings hold no state.
@@ -106,54 +104,6 @@ macro_rules! dispatch {
     };
 }
 
-/// The bytes of a mapping, as a mapping without state of another driver.
-fn restated<A, B>(mapping: &PreparedDataMapping<A>) -> PreparedDataMapping<B>
-    ensures storage { storage_of result ≡ storage_of mapping.now }
-    ensures offset { offset_of result ≡ offset_of mapping.now }
-    ensures length { length_of result ≡ length_of mapping.now }
-    ensures state { state_of result ≡ None }
-{
-    PreparedDataMapping::existing(mapping.storage(), mapping.offset(), mapping.length())
-}
-
-/// A mapping that a driver without states prepared, as one of this driver.
-macro_rules! prepared {
-    ($call:expr) => {{
-        let mapping = $call?;
-        let other = restated(&mapping);
-        let _ = mapping.into_state();
-        Ok(other)
-    }};
-}
-
-/// A write into a mapping of a driver without states. One with a state is foreign to it.
-macro_rules! written {
-    ($mapping:expr, $own:ident => $call:expr) => {{
-        if !$mapping.is_nonblocking() {
-            return Err(Error::ForeignMapping);
-        }
-        let $own = restated($mapping);
-        let result = $call;
-        let _ = $own.into_state();
-        result
-    }};
-}
-
-/// Spends a mapping of a driver without states. For one with a state, which is foreign to it, it
-/// answers that alone.
-macro_rules! spent {
-    ($mapping:expr, $own:ident => $call:expr, $foreign:expr) => {{
-        let $own = restated(&$mapping);
-        match $mapping.into_state() {
-            None => $call,
-            Some(_) => {
-                let _ = $own.into_state();
-                $foreign
-            }
-        }
-    }};
-}
-
 impl<S: Storage> Display for AnyDriver<S> {
     fn fmt<W: Write>(&self, f: &mut Formatter<W>) -> fmt::Result {
         dispatch!(self, driver => write!(f, "{driver}"))
@@ -163,7 +113,7 @@ impl<S: Storage> Display for AnyDriver<S> {
 impl<S: Storage> FormatDriverInstance for AnyDriver<S> {
     type Storage = S;
 
-    type State = CowState;
+    type State = Ticket;
 
     ghost view = { view_by_format ⟦<Raw<S> as FormatDriverInstance>⟧.view
         ⟦<Vmdk<S> as FormatDriverInstance>⟧.view ⟦<Cow<S> as FormatDriverInstance>⟧.view
@@ -300,82 +250,38 @@ impl<S: Storage> FormatDriverInstance for AnyDriver<S> {
         offset: u64,
         count: u64,
         overwrite: bool,
-    ) -> Result<PreparedDataMapping<CowState>, Error> {
-        match self {
-            AnyDriver::Raw(driver) => {
-                prepared!(driver.prepare_data_mapping(alloc, below, offset, count, overwrite))
-            }
-            AnyDriver::Vmdk(driver) => {
-                prepared!(driver.prepare_data_mapping(alloc, below, offset, count, overwrite))
-            }
-            AnyDriver::Cow(driver) => {
-                driver.prepare_data_mapping(alloc, below, offset, count, overwrite)
-            }
-            AnyDriver::Qcow2(driver) => {
-                prepared!(driver.prepare_data_mapping(alloc, below, offset, count, overwrite))
-            }
-        }
+    ) -> Result<PreparedDataMapping<Ticket>, Error> {
+        dispatch!(self, driver => {
+            driver.prepare_data_mapping(alloc, below, offset, count, overwrite)
+        })
     }
 
     fn write_prepared(
         &mut self,
         alloc: Global,
-        mapping: &PreparedDataMapping<CowState>,
+        mapping: &PreparedDataMapping<Ticket>,
         source: &[u8],
         at: u64,
     ) -> Result<(), Error> {
-        match self {
-            AnyDriver::Raw(driver) => {
-                written!(mapping, own => driver.write_prepared(alloc, &own, source, at))
-            }
-            AnyDriver::Vmdk(driver) => {
-                written!(mapping, own => driver.write_prepared(alloc, &own, source, at))
-            }
-            AnyDriver::Cow(driver) => driver.write_prepared(alloc, mapping, source, at),
-            AnyDriver::Qcow2(driver) => {
-                written!(mapping, own => driver.write_prepared(alloc, &own, source, at))
-            }
-        }
+        dispatch!(self, driver => driver.write_prepared(alloc, mapping, source, at))
     }
 
-    fn commit_data_mapping(&mut self, mapping: PreparedDataMapping<CowState>) -> Result<(), Error>
+    fn commit_data_mapping(&mut self, mapping: PreparedDataMapping<Ticket>) -> Result<(), Error>
         ensures call { IsCommit ⟦<AnyDriver<S> as FormatDriverInstance>⟧.view self.old self.new
             mapping result }
         ensures performed { ⟦<AnyDriver<S> as FormatDriverInstance>⟧.calls.committed mapping
             self.old self.new result }
     {
-        match self {
-            AnyDriver::Raw(driver) => {
-                spent!(mapping, own => driver.commit_data_mapping(own), Err(Error::ForeignMapping))
-            }
-            AnyDriver::Vmdk(driver) => {
-                spent!(mapping, own => driver.commit_data_mapping(own), Err(Error::ForeignMapping))
-            }
-            AnyDriver::Cow(driver) => driver.commit_data_mapping(mapping),
-            AnyDriver::Qcow2(driver) => {
-                spent!(mapping, own => driver.commit_data_mapping(own), Err(Error::ForeignMapping))
-            }
-        }
+        dispatch!(self, driver => driver.commit_data_mapping(mapping))
     }
 
-    fn cancel_data_mapping(&mut self, mapping: PreparedDataMapping<CowState>)
+    fn cancel_data_mapping(&mut self, mapping: PreparedDataMapping<Ticket>)
         ensures call { IsCancel ⟦<AnyDriver<S> as FormatDriverInstance>⟧.view self.old self.new
             mapping }
         ensures performed { ⟦<AnyDriver<S> as FormatDriverInstance>⟧.calls.cancelled mapping
             self.old self.new }
     {
-        match self {
-            AnyDriver::Raw(driver) => {
-                spent!(mapping, own => driver.cancel_data_mapping(own), ())
-            }
-            AnyDriver::Vmdk(driver) => {
-                spent!(mapping, own => driver.cancel_data_mapping(own), ())
-            }
-            AnyDriver::Cow(driver) => driver.cancel_data_mapping(mapping),
-            AnyDriver::Qcow2(driver) => {
-                spent!(mapping, own => driver.cancel_data_mapping(own), ())
-            }
-        }
+        dispatch!(self, driver => driver.cancel_data_mapping(mapping))
     }
 
     fn ensure_data_mapping<B: LowerLayer>(

@@ -1,10 +1,11 @@
 -- Values put behind one another.
 -- SPDX-License-Identifier: MIT
-use Rattle.std.proofs.Common.{◌≡◌, ℕ, ◌+◌, ◌-◌, ◌<◌, ◌≤◌, ⊎_elim, Bool, List, [], ◌++◌, length, map, min, replicate, take, Option, Some, None, Result, Ok, Err, OnErr, refl, sym, ap, ◌∙◌, subst, arith}
+use Rattle.std.proofs.Common.{◌≡◌, ℕ, ◌+◌, ◌-◌, ◌<◌, ◌≤◌, ⊎_elim, Bool, List, [], ◌++◌, length, map, min, replicate, take, Option, Some, None, Result, Ok, Err, OnOk, OnErr, refl, sym, ap, ◌∙◌, subst, arith}
 use Rattle.std.specs.Prelude.{IsTrue}
 use Rattle.std.proofs.lemmas.Bool.{cases_lt}
-use Rattle.std.proofs.lemmas.List.{same_lists, get_or_append_left, get_or-append_right, get_or-map, get_or-replicate, get_or-take, length-replicate, length-append, length-map, length-take, append_assoc, append-nil}
+use Rattle.std.proofs.lemmas.List.{same_lists, get_or_append_left, get_or-append_right, get_or-map, get_or-replicate, get_or-take, length-replicate, length-append, length-map, length-take, length-take-le, take_all, append_assoc, append-nil}
 use Rattle.std.proofs.lemmas.List.FromFn.{length-map-range_with_len, get_or-map-range_with_len}
+use borrow.Rule.Slice.PartMut.{put_mid, mid_of, same_len_mid}
 use Rattle.imago_drivers.specs.Place.{Value, Byte, shown, HasValues}
 use Rattle.imago_drivers.specs.View.{View}
 use Rattle.imago_access.specs.declared.access.FormatAccess.{FormatAccess}
@@ -12,10 +13,11 @@ use Rattle.imago_access.specs.Chain.{driver, disk_value, tells_bytes}
 use Rattle.imago_access.specs.Disk.{values_from, disk}
 use Rattle.imago_access.specs.Resolved.{LeadsToZero}
 use Rattle.imago_access.specs.Target.{Target, target}
+use Rattle.imago_access.proofs.Values.{has_more}
 use Rattle.imago_copy.specs.Appended.{IsAppended, IsPartlyAppended}
 use Rattle.imago_copy.specs.declared.runs.Run.{Run}
 use Rattle.imago_copy.specs.Runs.{IsRunAt, IsNextRun}
-use Rattle.imago_copy.specs.Copies.{IsPut, IsPartlyPut, IsDiskPut, IsDiskPartlyPut}
+use Rattle.imago_copy.specs.Copies.{IsPut, IsPartlyPut, IsGathered, IsDiskPut, IsDiskPartlyPut}
 use Rattle.imago_copy.specs.Ends.{AreZeroBehind}
 
 -- what holds anyway holds where there is an error
@@ -71,23 +73,17 @@ put_zeroes at o n (Some old) t zero is = (
   is,
 )
 
--- what was put of a run up to a place behind its data, and zeroes for the rest, is the run
-pub put_tail : (at : ℕ → Value) (o some done n : ℕ) (s mid t : Option (List ℕ)) → some ≤ done → done < n → AreZeroBehind at o some n
-    → IsPut at o done s mid → IsAppended mid t (replicate (n - done) 0) → IsPut at o n s t
-put_tail at o some done n s mid t behind left zero put is =
-    let all : done + (n - done) ≡ n = omega (arith, left) in
-    subst (λ (z : ℕ). IsPut at o z s t) all (put_more at o done (n - done) s mid t put
-    (put_zeroes at (o + done) (n - done) mid t
-    (λ i lt.
-    let place : o + (done + i) ≡ o + done + i = omega arith in
-    ap at (sym place) ∙ zero (done + i) (omega (arith, behind)) (omega (arith, lt)))
-    is))
+-- all was put, and nothing is held
+pub gathered_put : (at : ℕ → Value) (p : ℕ) (s t : Option (List ℕ)) (buf : List ℕ) → IsPut at 0 p s t → IsGathered at p s t buf 0
+gathered_put at p s t buf put =
+    let all : p + 0 ≡ p = omega arith in
+    let fits : 0 ≤ length buf = omega arith in
+    let none : length (take 0 buf) ≡ min 0 (length buf) = length-take 0 buf in
+    (p, all, put, fits, λ k lt. absurd (omega (arith, lt, none)))
 
--- what was put of a run is all of it, if nothing is left
-pub put_whole : (at : ℕ → Value) (o done n : ℕ) (s t : Option (List ℕ)) → n ≤ done → done ≤ n → IsPut at o done s t → IsPut at o n s t
-put_whole at o done n s t le ge put =
-    let same : done ≡ n = omega (arith, le, ge) in
-    subst (λ (z : ℕ). IsPut at o z s t) same put
+-- nothing was read yet, and nothing is held
+pub gathered_none : (at : ℕ → Value) (s : Option (List ℕ)) (buf : List ℕ) → IsGathered at 0 s s buf 0
+gathered_none at s buf = gathered_put at 0 s s buf (put_none at 0 s)
 
 module _ {D St : Type 0} (view : D → View St) (x : FormatAccess D) where
   -- all values of a disk were put
@@ -110,16 +106,17 @@ module _ {D St : Type 0} (view : D → View St) (x : FormatAccess D) where
 pub zero_as : {D St : Type 0} (view : D → View St) (y x : FormatAccess D) (o m n : ℕ) → y ≡ x → AreZeroBehind (disk_value view y) o m n → AreZeroBehind (disk_value view x) o m n
 zero_as view y x o m n same h = subst (λ (z : FormatAccess _). AreZeroBehind (disk_value view z) o m n) same h
 
--- what was put of one image's disk was put of the same image's
-pub put_as : {D St : Type 0} (view : D → View St) (y x : FormatAccess D) (o n : ℕ) (s t : Option (List ℕ)) → y ≡ x → (IsTrue (tells_bytes view y) → IsPut (disk_value view y) o n s t)
-    → IsTrue (tells_bytes view x) → IsPut (disk_value view x) o n s t
-put_as view y x o n s t same h = subst (λ (z : FormatAccess _). IsTrue (tells_bytes view z) → IsPut (disk_value view z) o n s t) same h
+module _ {D St : Type 0} (view : D → View St) (y x : FormatAccess D) (p q held : ℕ) (t u : Option (List ℕ)) (buf : List ℕ) (same : y ≡ x) where
+  -- what was gathered of one image's disk was gathered of the same image's
+  pub gathered_as : (more : ℕ) (new : List ℕ)
+      → (IsTrue (tells_bytes view y) → (s : Option (List ℕ)) → IsGathered (disk_value view y) p s t buf held → IsGathered (disk_value view y) q s u new more)
+      → IsTrue (tells_bytes view x) → (s : Option (List ℕ)) → IsGathered (disk_value view x) p s t buf held → IsGathered (disk_value view x) q s u new more
+  gathered_as more new h = subst (λ (z : FormatAccess D). IsTrue (tells_bytes view z) → (s : Option (List ℕ)) → IsGathered (disk_value view z) p s t buf held → IsGathered (disk_value view z) q s u new more) same h
 
--- what was put up to a run, and the run, is what was put up to its end
-pub put_run : (at : ℕ → Value) (p q : ℕ) (run : Run) (s mid t : Option (List ℕ)) → run.at ≡ p → q ≡ p + run.count → IsPut at 0 p s mid → IsPut at run.at run.count mid t → IsPut at 0 q s t
-put_run at p q run s mid t here there h k =
-    let from : run.at ≡ 0 + p = omega (arith, here) in
-    subst (λ (n : ℕ). IsPut at 0 n s t) (sym there) (put_more at 0 p run.count s mid t h (subst (λ (o : ℕ). IsPut at o run.count mid t) from k))
+  -- what was put of it before a refusal was put of the same image's
+  pub partly_as : (IsTrue (tells_bytes view y) → (s : Option (List ℕ)) → IsGathered (disk_value view y) p s t buf held → IsPartlyPut (disk_value view y) 0 q s u)
+      → IsTrue (tells_bytes view x) → (s : Option (List ℕ)) → IsGathered (disk_value view x) p s t buf held → IsPartlyPut (disk_value view x) 0 q s u
+  partly_as h = subst (λ (z : FormatAccess D). IsTrue (tells_bytes view z) → (s : Option (List ℕ)) → IsGathered (disk_value view z) p s t buf held → IsPartlyPut (disk_value view z) 0 q s u) same h
 
 module _ {D St : Type 0} (view : D → View St) where
   -- the next run, where there is one
@@ -166,28 +163,67 @@ partly_more at o a b most s mid t fits h (n, le, k) =
     let within : a + n ≤ most = omega (arith, le, fits) in
     (a + n, within, put_more at o a n s mid t h k)
 
--- what was put of a run up to a place behind its data, and some zeroes of the rest
-pub partly_tail : (at : ℕ → Value) (o some done n : ℕ) (s mid t : Option (List ℕ)) → some ≤ done → done < n → AreZeroBehind at o some n
-    → IsPut at o done s mid → IsPartlyAppended mid t (replicate (n - done) 0) → IsPartlyPut at o n s t
-partly_tail at o some done n s mid t behind left zero put is =
-    let all : done + (n - done) ≤ n = omega (arith, left) in
-    partly_more at o done (n - done) n s mid t all put
-    (partly_bytes at (o + done) (n - done) mid t (replicate (n - done) 0) zeroes values is)
+-- what is held was put
+pub put_gathered : (at : ℕ → Value) (p held : ℕ) (s t u : Option (List ℕ)) (buf : List ℕ) → IsGathered at p s t buf held → IsAppended t u (take held buf) → IsPut at 0 p s u
+put_gathered at p held s t u buf (n, all, put, fits, values) is =
+    let len : length (take held buf) ≡ held = length-take-le held buf fits in
+    let from : n ≡ 0 + n = omega arith in
+    subst (λ (z : ℕ). IsPut at 0 z s u) all (put_more at 0 n held s t u put (subst (λ (o : ℕ). IsPut at o held t u) from (put_bytes at n held t u (take held buf) len values is)))
+
+-- the first ones of what is held were put, or none
+pub partly_gathered : (at : ℕ → Value) (p held : ℕ) (s t u : Option (List ℕ)) (buf : List ℕ) → IsGathered at p s t buf held → IsPartlyAppended t u (take held buf) → IsPartlyPut at 0 p s u
+partly_gathered at p held s t u buf (n, all, put, fits, values) is =
+    let len : length (take held buf) ≡ held = length-take-le held buf fits in
+    let most : length (take held buf) ≤ held = omega (arith, len) in
+    let from : n ≡ 0 + n = omega arith in
+    let within : n + held ≤ p = omega (arith, all) in
+    partly_more at 0 n held p s t u within put (subst (λ (o : ℕ). IsPartlyPut at o held t u) from (partly_bytes at n held t u (take held buf) most values is))
+
+-- what is held wasn't put
+pub partly_held : (at : ℕ → Value) (p q held : ℕ) (s t : Option (List ℕ)) (buf : List ℕ) → p ≤ q → IsGathered at p s t buf held → IsPartlyPut at 0 q s t
+partly_held at p q held s t buf le (n, all, put, fits, values) =
+    let within : n ≤ q = omega (arith, all, le) in
+    (n, within, put)
+
+-- at most so many were put, and so at most more
+pub partly_within : (at : ℕ → Value) (p q : ℕ) (s t : Option (List ℕ)) → p ≤ q → IsPartlyPut at 0 p s t → IsPartlyPut at 0 q s t
+partly_within at p q s t le (n, most, put) =
+    let within : n ≤ q = omega (arith, most, le) in
+    (n, within, put)
+
+-- what was read behind what is held is held with it
+pub gathered_more : (at : ℕ → Value) (p held n k : ℕ) (s t : Option (List ℕ)) (buf chunk : List ℕ) → length chunk ≡ n → length chunk ≡ length (mid_of held k buf) → held + n ≤ length buf
+    → HasValues at p chunk → IsGathered at p s t buf held → IsGathered at (p + n) s t (put_mid held k buf chunk) (held + n)
+gathered_more at p held n k s t buf chunk len mid room read (m, all, put, fits, values) =
+    let sum : m + (held + n) ≡ p + n = omega (arith, all) in
+    let whole : length (put_mid held k buf chunk) ≡ length buf = same_len_mid held k buf chunk mid in
+    let inside : held + n ≤ length (put_mid held k buf chunk) = omega (arith, whole, room) in
+    let some : n ≤ length chunk = omega (arith, len) in
+    let least : length chunk ≤ n = omega (arith, len) in
+    let from : p ≡ m + held = sym all in
+    let behind : HasValues at (m + held) (take n chunk) = subst (λ (o : ℕ). HasValues at o (take n chunk)) from (subst (HasValues at p) (sym (take_all n chunk least)) read) in
+    (m, sum, put, inside, has_more at m held k n buf chunk fits some values behind)
+
+-- zeroes were put behind what was put
+pub put_tail : (at : ℕ → Value) (p n : ℕ) (s t u : Option (List ℕ)) → ((i : ℕ) → i < n → at (p + i) ≡ Byte 0) → IsPut at 0 p s t → IsAppended t u (replicate n 0) → IsPut at 0 (p + n) s u
+put_tail at p n s t u zero put is =
+    let from : p ≡ 0 + p = omega arith in
+    put_more at 0 p n s t u put (subst (λ (o : ℕ). IsPut at o n t u) from (put_zeroes at p n t u zero is))
+
+-- some zeroes were put behind it
+pub partly_tail : (at : ℕ → Value) (p n : ℕ) (s t u : Option (List ℕ)) → ((i : ℕ) → i < n → at (p + i) ≡ Byte 0) → IsPut at 0 p s t → IsPartlyAppended t u (replicate n 0) → IsPartlyPut at 0 (p + n) s u
+partly_tail at p n s t u zero put is =
+    let all : p + n ≤ p + n = omega arith in
+    let from : p ≡ 0 + p = omega arith in
+    partly_more at 0 p n (p + n) s t u all put (subst (λ (o : ℕ). IsPartlyPut at o n t u) from (partly_bytes at p n t u (replicate n 0) zeroes values is))
   where
-    zeroes : length (replicate {A = ℕ} (n - done) 0) ≤ n - done
-    zeroes = omega (arith, length-replicate {A = ℕ} (n - done) 0)
+    zeroes : length (replicate {A = ℕ} n 0) ≤ n
+    zeroes = omega (arith, length-replicate {A = ℕ} n 0)
 
-    values : HasValues at (o + done) (replicate (n - done) 0)
+    values : HasValues at p (replicate n 0)
     values k lt =
-        let inside : k < n - done = omega (arith, lt, length-replicate {A = ℕ} (n - done) 0) in
-        let place : o + (done + k) ≡ o + done + k = omega arith in
-        ap at (sym place) ∙ zero (done + k) (omega (arith, behind)) (omega (arith, inside))
-        ∙ ap Byte (sym (get_or-replicate (n - done) k 0 0 inside))
-
--- the same of the same image
-pub partly_as : {D St : Type 0} (view : D → View St) (y x : FormatAccess D) (o n : ℕ) (s t : Option (List ℕ)) → y ≡ x → (IsTrue (tells_bytes view y) → IsPartlyPut (disk_value view y) o n s t)
-    → IsTrue (tells_bytes view x) → IsPartlyPut (disk_value view x) o n s t
-partly_as view y x o n s t same h = subst (λ (z : FormatAccess _). IsTrue (tells_bytes view z) → IsPartlyPut (disk_value view z) o n s t) same h
+        let inside : k < n = omega (arith, lt, length-replicate {A = ℕ} n 0) in
+        zero k inside ∙ ap Byte (sym (get_or-replicate n k 0 0 inside))
 
 module _ {D St : Type 0} (view : D → View St) (x : FormatAccess D) where
   -- the first values of a disk were put
@@ -209,3 +245,20 @@ module _ {D St : Type 0} (view : D → View St) (x : FormatAccess D) where
             ∙ sym (get_or-take (length bytes) (values_from f 0 size) k d there)),
         is,
       )
+
+  module _ {E : Type 0} (r : Result (Unit {0}) E) (p held : ℕ) (s t u : Option (List ℕ)) (buf : List ℕ) (gathered : IsGathered (disk_value view x) p s t buf held) where
+    -- once what is held is put, all values of a disk were put
+    pub rest_put : p ≡ (view (driver x)).size → OnOk r (IsAppended t u (take held buf)) → OnOk r (IsDiskPut (disk view x) s u)
+    rest_put ends = on_ok r ends
+      where
+        on_ok : (q : Result (Unit {0}) E) → p ≡ (view (driver x)).size → OnOk q (IsAppended t u (take held buf)) → OnOk q (IsDiskPut (disk view x) s u)
+        on_ok (Ok y) ends is = put_disk view x p s u ends (put_gathered (disk_value view x) p held s t u buf gathered is)
+        on_ok (Err e) ends is = tt
+
+    -- where that is refused, the first ones of them were put
+    pub rest_partly_put : p ≤ (view (driver x)).size → OnErr r (IsPartlyAppended t u (take held buf)) → OnErr r (IsDiskPartlyPut (disk view x) s u)
+    rest_partly_put within = on_err r within
+      where
+        on_err : (q : Result (Unit {0}) E) → p ≤ (view (driver x)).size → OnErr q (IsPartlyAppended t u (take held buf)) → OnErr q (IsDiskPartlyPut (disk view x) s u)
+        on_err (Ok y) within is = tt
+        on_err (Err e) within is = partly_disk p s u within (partly_gathered (disk_value view x) p held s t u buf gathered is)

@@ -23,9 +23,9 @@ use Rattle.imago_drivers.specs.View.{View}
 use Rattle.imago_drivers.specs.Laws.{AreCauses}
 use Rattle.imago_drivers.specs.Commit.{IsCommit, is_committed}
 use Rattle.imago_drivers.specs.declared.mapping.PreparedDataMapping.{PreparedDataMapping}
+use Rattle.imago_drivers.specs.declared.mapping.Ticket.{Ticket}
 use Rattle.imago_cow.specs.declared.table.GuestBlock.{GuestBlock}
 use Rattle.imago_cow.specs.declared.cow.Waiting.{Waiting}
-use Rattle.imago_cow.specs.declared.cow.CowState.{CowState}
 use Rattle.imago_cow.specs.Guest.{Covers, entry_place, cow_place, is_data}
 use Rattle.imago_cow.specs.GuestLaws.{place_in, place_out, rest_small, same_block}
 use Rattle.imago_cow.specs.Cow.{cow_view, cow_cause, cow_copies, cow_pending, WaitsApart, waiting_byte, waiting_from, data_count, IsDirect}
@@ -88,7 +88,7 @@ storage_faults count now_count faults reliable result x = record {
 }
 
 -- what a storage's flush is refused for, the driver's may be
-pub flush_refused : (v : View CowState) (result : Result Unit Error) → (IsErrOf result Error.Memory → v.limits.no_memory Flush 0 0 → ⊥) → IfErr result IsDeviceOrMemory → IfErr result (allowed (driver_reasons v Flush 0 0))
+pub flush_refused : (v : View Ticket) (result : Result Unit Error) → (IsErrOf result Error.Memory → v.limits.no_memory Flush 0 0 → ⊥) → IfErr result IsDeviceOrMemory → IfErr result (allowed (driver_reasons v Flush 0 0))
 flush_refused v (Ok x) takes h = tt
 flush_refused v (Err e) takes h = ⊎_elim (λ device. rw device tt) (λ memory. rw memory (takes (ap (λ x. Err x) memory))) h
 
@@ -122,7 +122,7 @@ not_ext : {e : Error} → IsExtRefusal e → (e ≡ Error.WrapAround → ⊥) �
 not_ext h w d m = ⊎_elim w (λ k. ⊎_elim d m k) h
 
 -- a write into a mapping whose bytes lie in the data blocks
-pub mapping_refused : (f : Features) (count : ℕ) (bytes : List ℕ) (size block : ℕ) (entries : List GuestBlock) (blocks : ℕ) (v : Option Waiting) (m : PreparedDataMapping CowState) (at n : ℕ) (r : Result Unit Error)
+pub mapping_refused : (f : Features) (count : ℕ) (bytes : List ℕ) (size block : ℕ) (entries : List GuestBlock) (blocks : ℕ) (v : Option Waiting) (m : PreparedDataMapping Ticket) (at n : ℕ) (r : Result Unit Error)
     → IfErr r IsExtRefusal → (IsErrOf r Error.WrapAround → Wraps f (m.offset + at) n) → m.offset + at + n ≤ blocks * block
     → (IsErrOf r Error.Memory → (o : ℕ) → IsFor (cow_view f count bytes size block entries blocks v) m at n o → IsDirect f f.write_memory (length bytes) block entries o n → ⊥) → IfErr r (allowed (mapping_write_reasons (cow_view f count bytes size block entries blocks v) m at n))
 mapping_refused f count bytes size block entries blocks v m at n (Ok x) only wraps inside takes = tt
@@ -137,7 +137,7 @@ mapping_refused f count bytes size block entries blocks v m at n (Err e) only wr
     (λ k. ⊎_elim (λ d. rw d tt) (λ y. rw y (takes (ap (λ x. Err x) y))) k) only
 
 -- A refusal for want of memory of a write into a mapping whose places stand in data blocks.
-pub existing_takes : (f : Features) (count : ℕ) (bytes : List ℕ) (size block : ℕ) (entries : List GuestBlock) (blocks : ℕ) (v : Option Waiting) (m : PreparedDataMapping CowState) (st : Option CowState) (at n o : ℕ)
+pub existing_takes : (f : Features) (count : ℕ) (bytes : List ℕ) (size block : ℕ) (entries : List GuestBlock) (blocks : ℕ) (v : Option Waiting) (m : PreparedDataMapping Ticket) (st : Option Ticket) (at n o : ℕ)
     → is_none st ≡ true → 0 < n → (IsAlignedRequest f (m.offset + at) n → MayRunOut f.write_memory (length bytes) (m.offset + at + n))
     → is_for (cow_view f count bytes size block entries blocks v) m st at n o → IsDirect f f.write_memory (length bytes) block entries o n → ⊥
 existing_takes f count bytes size block entries blocks v m None at n o stateless some memory stands d =
@@ -145,7 +145,7 @@ existing_takes f count bytes size block entries blocks v m None at n o stateless
 existing_takes f count bytes size block entries blocks v m (Some s) at n o stateless some memory stands d = let z : ⊥ = cc in z
 
 -- The places of the mapping that waits stand in no data block yet.
-pub waiting_takes : (f : Features) (count : ℕ) (bytes : List ℕ) (size block : ℕ) (entries : List GuestBlock) (blocks : ℕ) (w : Waiting) (m : PreparedDataMapping CowState) (at n o : ℕ)
+pub waiting_takes : (f : Features) (count : ℕ) (bytes : List ℕ) (size block : ℕ) (entries : List GuestBlock) (blocks : ℕ) (w : Waiting) (m : PreparedDataMapping Ticket) (at n o : ℕ)
     → 0 < block → WaitsApart block size entries blocks w → m.state ≡ Some w.state → 0 < n → at + n ≤ w.length
     → IsFor (cow_view f count bytes size block entries blocks (Some w)) m at n o → IsDirect f f.write_memory (length bytes) block entries o n → ⊥
 waiting_takes f count bytes size block entries blocks w m at n o positive apart state some inside is_for_it d =
@@ -201,7 +201,7 @@ module _ (f : Features) (count now_count : ℕ) (old new : List ℕ) (size block
     };
   }
 
-  pub written_apart : (m : PreparedDataMapping CowState) (st : Option CowState) → st ≡ Some w.state → (IsTrue f.keeps_data → Put)
+  pub written_apart : (m : PreparedDataMapping Ticket) (st : Option Ticket) → st ≡ Some w.state → (IsTrue f.keeps_data → Put)
       → is_written st torn (cow_view f count old size block entries blocks (Some w)) (cow_view f now_count new size block entries blocks (Some w)) m at xs
   written_apart m None e put = let z : ⊥ = cc in absurd z
   written_apart m (Some s) e put = (

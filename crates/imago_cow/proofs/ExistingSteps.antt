@@ -10,8 +10,8 @@ use Rattle.imago_drivers.specs.Calls.{IsPreparation}
 use Rattle.imago_drivers.specs.Prepared.{IsPrepared}
 use Rattle.imago_drivers.specs.View.{View}
 use Rattle.imago_drivers.specs.declared.mapping.PreparedDataMapping.{PreparedDataMapping}
+use Rattle.imago_drivers.specs.declared.mapping.Ticket.{Ticket}
 use Rattle.imago_cow.specs.declared.table.GuestBlock.{GuestBlock}
-use Rattle.imago_cow.specs.declared.cow.CowState.{CowState}
 use Rattle.imago_cow.specs.Guest.{entry_place, cow_place}
 use Rattle.imago_cow.specs.GuestLaws.{rest_small, same_block, same_rest, place_in}
 use Rattle.imago_cow.specs.Cow.{cow_view, IsDirect}
@@ -52,7 +52,7 @@ module _ (f : Features) (count : ℕ) (bytes : List ℕ) (size block : ℕ) (ent
       )
 
   -- a mapping of bytes that stand in the data block already
-  pub prepared_existing : (j run : ℕ) (overwrite told : Bool) (disk : ℕ → Value) (m : PreparedDataMapping CowState) → slice_get entries (o / block) ≡ Some (GuestBlock.Data j) → 0 < n → run ≡ min n (block - o % block)
+  pub prepared_existing : (j run : ℕ) (overwrite told : Bool) (disk : ℕ → Value) (m : PreparedDataMapping Ticket) → slice_get entries (o / block) ≡ Some (GuestBlock.Data j) → 0 < n → run ≡ min n (block - o % block)
       → m.storage ≡ 0 → m.offset ≡ j * block + o % block → m.length ≡ run → m.state ≡ None
       → IsPrepared o n overwrite told disk (cow_view f count bytes size block entries blocks None) (cow_view f count bytes size block entries blocks None) m
   prepared_existing j run overwrite told disk m at some len storage offset long state =
@@ -75,7 +75,7 @@ module _ (f : Features) (count : ℕ) (bytes : List ℕ) (size block : ℕ) (ent
       }
 
   -- an empty mapping
-  pub prepared_none : (overwrite told : Bool) (disk : ℕ → Value) (m : PreparedDataMapping CowState) → n ≡ 0 → m.length ≡ 0 → m.state ≡ None
+  pub prepared_none : (overwrite told : Bool) (disk : ℕ → Value) (m : PreparedDataMapping Ticket) → n ≡ 0 → m.length ≡ 0 → m.state ≡ None
       → IsPrepared o n overwrite told disk (cow_view f count bytes size block entries blocks None) (cow_view f count bytes size block entries blocks None) m
   prepared_none overwrite told disk m none long state = record {
     within = omega (arith, long);

@@ -23,9 +23,9 @@ use Rattle.imago_drivers.specs.Frame.{IsUnchanged}
 use Rattle.imago_drivers.specs.Pending.{Pending}
 use Rattle.imago_drivers.specs.Prepared.{IsPrepared}
 use Rattle.imago_drivers.specs.declared.mapping.PreparedDataMapping.{PreparedDataMapping}
+use Rattle.imago_drivers.specs.declared.mapping.Ticket.{Ticket}
 use Rattle.imago_cow.specs.declared.table.GuestBlock.{GuestBlock}
 use Rattle.imago_cow.specs.declared.cow.Waiting.{Waiting}
-use Rattle.imago_cow.specs.declared.cow.CowState.{CowState}
 use Rattle.imago_cow.specs.declared.table.WithoutData.{WithoutData}
 use Rattle.imago_cow.specs.declared.table.WithoutData.TheVariants as W
 use Rattle.imago_cow.specs.Table.{named_count, IsLowestUnused, times_used, without_data, is_absent}
@@ -135,7 +135,7 @@ module _ (f : Features) (size block : ℕ) (entries : List GuestBlock) (blocks n
   }
 
 -- what waits, as the driver's callers see it
-abbrev pub pending_of : ℕ → ℕ → List ℕ → Waiting → Pending CowState
+abbrev pub pending_of : ℕ → ℕ → List ℕ → Waiting → Pending Ticket
 pending_of block size bytes w = record {
   start = w.start;
   storage = 0;
@@ -207,7 +207,7 @@ module _ (f : Features) (faults now_faults : ℕ) (bytes now : List ℕ) (size b
         (λ t. ap (λ x. shown at (entry_place bytes block p x)) (there t) ∙ ap (λ x. old_value at x p) (sym t))
         (cases_Bool absent)
 
-    pub prepared : (o most : ℕ) (m : PreparedDataMapping CowState) → o ≡ w.start → 0 < most → w.length ≡ in_block block o most → m.storage ≡ 0 → m.offset ≡ w.offset → m.length ≡ w.length → m.state ≡ Some w.state
+    pub prepared : (o most : ℕ) (m : PreparedDataMapping Ticket) → o ≡ w.start → 0 < most → w.length ≡ in_block block o most → m.storage ≡ 0 → m.offset ≡ w.offset → m.length ≡ w.length → m.state ≡ Some w.state
         → IsPrepared o most overwrite told (values at (cow_place bytes size block entries)) (cow_view f faults bytes size block entries blocks None) (cow_view f now_faults now size block entries now_blocks (Some w)) m
     prepared o most m start some len storage offset long state = record {
       within = omega (arith, long, len);

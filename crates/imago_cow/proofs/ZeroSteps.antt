@@ -10,12 +10,12 @@ use Rattle.imago_drivers.specs.Place.{Value, IsIn, shown, values}
 use Rattle.imago_drivers.specs.View.{View}
 use Rattle.imago_drivers.specs.Outside.{StaysOutside}
 use Rattle.imago_drivers.proofs.Stays.{shares_own}
-use Rattle.imago_cow.specs.declared.cow.CowState.{CowState}
 use Rattle.imago_drivers.specs.Calls.{IsZeroCall, IsDiscard}
 use Rattle.imago_drivers.specs.Done.{HasDone}
 use Rattle.imago_drivers.specs.Causes.{AddsNone}
 use Rattle.imago_drivers.specs.Changes.{Change, IsChanged, zeroes}
 use Rattle.imago_drivers.specs.Frame.{IsFramed, ReachesNoMore}
+use Rattle.imago_drivers.specs.declared.mapping.Ticket.{Ticket}
 use Rattle.imago_cow.specs.declared.table.GuestBlock.{GuestBlock}
 use Rattle.imago_cow.specs.Guest.{IsWholeBlock, IsWholePart, AreWholeCleared, Covers, entry_place, cow_place, is_data}
 use Rattle.imago_cow.specs.GuestLaws.{rest_small, entry_at, place_in, place_out, left_holds}
@@ -55,10 +55,10 @@ is_whole_or_not block size o n i = ⊎_elim
 
 module _ (f : Features) (faults : ℕ) (bytes : List ℕ) (size block : ℕ) (old new : List GuestBlock) (blocks o n q m : ℕ) (entry : GuestBlock)
     (positive : 0 < block) (inside : o + n ≤ size) (covers : Covers size block old) (part : IsWholePart block size o n q m) (cleared : AreWholeCleared block size o n entry old new) where
-  abbrev before : View CowState
+  abbrev before : View Ticket
   before = cow_view f faults bytes size block old blocks None
 
-  abbrev after : View CowState
+  abbrev after : View Ticket
   after = cow_view f faults bytes size block new blocks None
 
   now_covers : Covers size block new

@@ -8,6 +8,7 @@ use Rattle.imago_storage.specs.Padding.{Wraps, aligned_start}
 use Rattle.imago_drivers.specs.declared.format.Format.TheVariants as Format
 use Rattle.imago_drivers.specs.declared.format.PreallocateMode.{PreallocateMode}
 use Rattle.imago_drivers.specs.declared.mapping.PreparedDataMapping.{PreparedDataMapping}
+use Rattle.imago_drivers.specs.declared.mapping.Ticket.{Ticket}
 use Rattle.imago_drivers.specs.declared.format.PreallocateMode.TheVariants as Mode
 use Rattle.imago_drivers.specs.Operation.{Operation, Map, Read, Write, Zero, DiscardToZero}
 use Rattle.imago_drivers.specs.Operation.{DiscardToAny, DiscardToBacking, Grow, Shrink, Flush}
@@ -19,7 +20,6 @@ use Rattle.imago_drivers.specs.Ranges.{HasWrappingPart}
 use Rattle.imago_drivers.specs.Lengths.{padded_to}
 use Rattle.imago_drivers.specs.View.{View}
 use Rattle.imago_cow.specs.declared.table.GuestBlock.{GuestBlock}
-use Rattle.imago_cow.specs.declared.cow.CowState.{CowState}
 use Rattle.imago_cow.specs.declared.cow.Waiting.{Waiting}
 use Rattle.imago_cow.specs.Guest.{origin_in, cow_place, is_data, number_of, is_touched}
 use Rattle.imago_cow.specs.Guest.{IsWholeBlock, IsWholePart}
@@ -220,7 +220,7 @@ waiting_byte block bytes w p = if nat_lt p (waiting_from block w) then 0 else sl
 
 -- A write that waits: its bytes stand in its data block, and so do those round them, up to the
 -- guest block's end or the disk's.
-abbrev pub cow_pending : ℕ → ℕ → List ℕ → Option Waiting → Option (Pending CowState)
+abbrev pub cow_pending : ℕ → ℕ → List ℕ → Option Waiting → Option (Pending Ticket)
 cow_pending block size bytes None = None
 cow_pending block size bytes (Some w) = Some (record {
   start = w.start;
@@ -236,7 +236,7 @@ cow_pending block size bytes (Some w) = Some (record {
 -- A disk of that size in guest blocks of that length, with these entries and so many data blocks,
 -- free ones too.
 abbrev pub cow_view : Features → ℕ → List ℕ → ℕ → ℕ → List GuestBlock → ℕ → Option Waiting
-    → View CowState
+    → View Ticket
 cow_view f fault_count bytes size block entries blocks waiting = record {
   abilities = record {
     format = Format.Cow;
@@ -268,7 +268,7 @@ cow_view f fault_count bytes size block entries blocks waiting = record {
 }
 
 -- the disk of that table
-abbrev pub table_view : Features → ℕ → List ℕ → ℕ → ℕ → Table → Option Waiting → View CowState
+abbrev pub table_view : Features → ℕ → List ℕ → ℕ → ℕ → Table → Option Waiting → View Ticket
 table_view f fault_count bytes size block table waiting =
     cow_view f fault_count bytes size block (entries_of table) (count_of table) waiting
 
@@ -285,7 +285,7 @@ pub record WaitsApart (block size : ℕ) (entries : List GuestBlock) (blocks : �
 
 -- The write that waits is for n bytes from o on, and stands in the lowest data block that was
 -- unused, which is held.
-pub record IsWaitingFor (block size o n : ℕ) (own : CowState) (old new : Table) (w : Waiting)
+pub record IsWaitingFor (block size o n : ℕ) (own : Ticket) (old new : Table) (w : Waiting)
     : Type 0 where
   pub held : held_of new ≡ Some w.number
   pub lowest : IsLowestUnused (entries_of old) None (count_of old) w.number
@@ -295,7 +295,7 @@ pub record IsWaitingFor (block size o n : ℕ) (own : CowState) (old new : Table
   pub state : w.state ≡ own
 
 -- the mapping is that of the write that waits
-pub record IsMappingOf (w : Waiting) (m : PreparedDataMapping CowState) : Type 0 where
+pub record IsMappingOf (w : Waiting) (m : PreparedDataMapping Ticket) : Type 0 where
   pub storage : storage_of m ≡ 0
   pub offset : offset_of m ≡ w.offset
   pub run : length_of m ≡ w.length

@@ -10,16 +10,16 @@ use Rattle.imago_storage.specs.Maintenance.{Maintenance}
 use Rattle.imago_drivers.specs.LayerBelow.{LayerBelow}
 use Rattle.imago_drivers.specs.declared.format.PreallocateMode.{PreallocateMode}
 use Rattle.imago_drivers.specs.declared.mapping.PreparedDataMapping.{PreparedDataMapping}
-use Rattle.imago_drivers.specs.Parts.{state_of}
+use Rattle.imago_drivers.specs.declared.mapping.Ticket.{Ticket}
+use Rattle.imago_drivers.specs.Parts.{state_of, number_of}
 use Rattle.imago_cow.specs.declared.cow.Cow.{Cow}
-use Rattle.imago_cow.specs.declared.cow.CowState.{CowState}
 use Rattle.imago_cow.specs.declared.table.GuestBlock.{GuestBlock}
 use Rattle.imago_cow.specs.Guest.{IsMade}
 use Rattle.imago_cow.specs.CopyCalls.{outcome, IsCopiedFor, IsCopiedInGrowth}
 use Rattle.imago_cow.specs.Grown.{AreGrown}
 use Rattle.imago_cow.specs.TableView.{room_of}
 use Rattle.imago_cow.specs.CowImage.{storage_in, size_of, block_of, blocks_of, data_blocks_of}
-use Rattle.imago_cow.specs.CowImage.{table_of, waiting_in, tickets_of, ticket_of, lower_faults}
+use Rattle.imago_cow.specs.CowImage.{table_of, waiting_in, tickets_of, lower_faults}
 
 -- What each call of a copy-on-write disk is, beside what its places show.
 
@@ -47,7 +47,7 @@ IsStored write source at old new result = write at source (storage_in old) (stor
 -- A write into a prepared mapping is refused as foreign or of no bytes, and nothing changes; or it
 -- is the storage's write of these bytes at that place of the mapping.
 abbrev pub IsCowFilled : {S : Type 0} {g : _} {h : _}
-    → (ℕ → List ℕ → S → S → Result (Unit {0}) Error → Type 0) → PreparedDataMapping CowState
+    → (ℕ → List ℕ → S → S → Result (Unit {0}) Error → Type 0) → PreparedDataMapping Ticket
     → List ℕ → ℕ → Cow S g h → Cow S g h → Result (Unit {0}) Error → Type 0
 IsCowFilled write m source at old new result = ((new ≡ old) × (result ≡ Err ForeignMapping))
     ⊎ ((m.length ≡ 0) × (new ≡ old) × (result ≡ Ok tt))
@@ -70,15 +70,15 @@ IsClearing entry o n old new result = KeepsStorage old new × (size_of new ≡ s
 
 -- A mapping with a state got the next ticket, and any other none. Past the greatest one they begin
 -- again.
-abbrev pub has_next_ticket : ℕ → ℕ → Option CowState → Type 0
+abbrev pub has_next_ticket : ℕ → ℕ → Option Ticket → Type 0
 has_next_ticket old new None = new ≡ old
-has_next_ticket old new (Some s) = (new ≡ (old + 1) % 2 ^ 64) × (ticket_of s ≡ new)
+has_next_ticket old new (Some t) = (new ≡ (old + 1) % 2 ^ 64) × (number_of t ≡ new)
 
 -- A mapping was prepared, or refused: guest blocks stay what they are, and bytes of one are copied
 -- by these calls of the storage and no others.
 abbrev pub IsCowPreparing : {S : Type 0} {g : _} {h : _} → (S → Features) → (S → List ℕ) → (S → ℕ)
     → (S → IoCount) → Maintenance S → LayerBelow → ℕ → ℕ → Bool → Cow S g h → Cow S g h
-    → Result (PreparedDataMapping CowState) Error → Type 0
+    → Result (PreparedDataMapping Ticket) Error → Type 0
 IsCowPreparing features_of bytes_of faults_of work_of calls l o n overwrite old new result =
     IsCopiedFor features_of bytes_of faults_of work_of calls l (blocks_of old) (data_blocks_of old)
     (block_of old) (size_of old) o n overwrite (storage_in old) (storage_in new) (outcome result)
@@ -87,13 +87,13 @@ IsCowPreparing features_of bytes_of faults_of work_of calls l o n overwrite old 
     × IfOk result (λ m. has_next_ticket (tickets_of old) (tickets_of new) (state_of m))
 
 -- A mapping was committed, or refused. One without a state changes nothing at all.
-abbrev pub IsCowCommit : {S : Type 0} {g : _} {h : _} → PreparedDataMapping CowState → Cow S g h
+abbrev pub IsCowCommit : {S : Type 0} {g : _} {h : _} → PreparedDataMapping Ticket → Cow S g h
     → Cow S g h → Type 0
 IsCowCommit m old new = KeepsStorage old new × (size_of new ≡ size_of old)
     × (state_of m ≡ None → new ≡ old)
 
 -- A mapping was cancelled: guest blocks stay what they are.
-abbrev pub IsCowCancel : {S : Type 0} {g : _} {h : _} → PreparedDataMapping CowState → Cow S g h
+abbrev pub IsCowCancel : {S : Type 0} {g : _} {h : _} → PreparedDataMapping Ticket → Cow S g h
     → Cow S g h → Type 0
 IsCowCancel m old new = IsCowCommit m old new × (blocks_of new ≡ blocks_of old)
 

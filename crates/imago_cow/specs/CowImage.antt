@@ -3,7 +3,6 @@ use Rattle.std.specs.Prelude.{ℕ, ◌+◌, List, Option}
 use Rattle.imago_cow.specs.declared.table.GuestBlock.{GuestBlock}
 use Rattle.imago_cow.specs.declared.table.Table.{Table}
 use Rattle.imago_cow.specs.declared.cow.Cow.{Cow}
-use Rattle.imago_cow.specs.declared.cow.CowState.{CowState}
 use Rattle.imago_cow.specs.declared.cow.Waiting.{Waiting}
 use Rattle.imago_cow.specs.Table.{named_count, held_count}
 use Rattle.imago_cow.specs.Cow.{number_of_waiting}
@@ -49,10 +48,6 @@ used_in d = named_count (blocks_of d) + held_count (number_of_waiting (waiting_i
 -- the ticket of the mapping that was prepared last; the first one is 1
 abbrev pub tickets_of : {S : Type 0} {g : _} {h : _} → Cow S g h → ℕ
 tickets_of d = d.tickets
-
--- the ticket of a mapping
-abbrev pub ticket_of : CowState → ℕ
-ticket_of s = s.ticket
 
 -- how often a changing call failed to read the layer below
 abbrev pub lower_faults : {S : Type 0} {g : _} {h : _} → Cow S g h → ℕ

@@ -16,9 +16,9 @@ ghost use Rattle.imago_cow.specs.CopyCalls.{CopiesZeroes, IsWritten, IsCopied, I
 ghost use Rattle.imago_cow.specs.Table.{is_absent};
 
 use crate::block::BlockSize;
-use crate::cow::CowState;
 use crate::table::{WithoutData, leads_below};
 use crate::zero::{shows_zeroes, takes_zeroes, zero_bytes};
+use imago_drivers::drivers::Ticket;
 use imago_drivers::layer::LowerLayer;
 use imago_drivers::stored::write_bytes;
 use imago_storage::error::Error;
@@ -204,7 +204,7 @@ pub(crate) struct Part {
     /// The range itself isn't copied.
     pub(crate) overwrite: bool,
     /// What its mapping holds.
-    pub(crate) state: CowState,
+    pub(crate) state: Ticket,
 }
 
 /// Copies what the guest block of a part shows, within the disk, to a data block that begins at

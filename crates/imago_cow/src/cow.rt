@@ -36,7 +36,7 @@ use crate::named::all_shown;
 use crate::prepare_block::prepare_part;
 use crate::table::{GuestBlock, Table, kind_of};
 use imago_drivers::drivers::{
-    Format, FormatDriverInstance, PreallocateMode, PreparedDataMapping, ShallowMapping,
+    Format, FormatDriverInstance, PreallocateMode, PreparedDataMapping, ShallowMapping, Ticket,
 };
 use imago_drivers::layer::LowerLayer;
 use imago_storage::error::Error;
@@ -44,13 +44,8 @@ use imago_storage::storage::Storage;
 use std::alloc::Global;
 use std::fmt::{self, Display, Formatter, Write};
 
-/// What a prepared mapping of a [`Cow`] holds until it is committed: its number among those that
-/// the disk prepared. Two disks count alike, so it doesn't tell whose the mapping is. It has no
-/// public parts.
-#[derive(Clone, Copy, Debug, PartialEq, Eq)]
-pub struct CowState {
-    pub(crate) ticket: u64,
-}
+/// What a prepared mapping of a [`Cow`] holds until it is committed.
+pub type CowState = Ticket;
 
 /// A prepared write whose bytes nothing shows yet.
 #[derive(Clone, Copy)]
@@ -61,7 +56,7 @@ pub(crate) struct Waiting {
     pub(crate) offset: u64,
     /// The data block that it stands in.
     pub(crate) number: u64,
-    pub(crate) state: CowState,
+    pub(crate) state: Ticket,
 }
 
 /// A disk that keeps what is written to it apart from the layer below, in blocks of one length.
@@ -190,7 +185,7 @@ impl<S: Storage> Cow<S> {
 }
 
 /// Whether the mapping is the write that waits.
-fn is_waiting(waiting: Option<Waiting>, mapping: &PreparedDataMapping<CowState>) -> bool
+fn is_waiting(waiting: Option<Waiting>, mapping: &PreparedDataMapping<Ticket>) -> bool
     ensures { (block size : ℕ) (bytes : _) → IsTrue result
         ↔ IsOwn (cow_pending block size bytes waiting) mapping.now }
 {
@@ -203,7 +198,7 @@ fn is_waiting(waiting: Option<Waiting>, mapping: &PreparedDataMapping<CowState>)
     mapping.storage() == 0
         && mapping.offset() == waiting.offset
         && mapping.length() == waiting.length
-        && state.ticket == waiting.state.ticket
+        && state.number() == waiting.state.number()
 }
 
 impl<S: Storage> Display for Cow<S> {
@@ -223,7 +218,7 @@ impl<S: Storage> FormatDriverInstance for Cow<S> {
 
     type Storage = S;
 
-    type State = CowState;
+    type State = Ticket;
 
     ghost view = { λ d. cow_view (S.features d.storage) (S.fault_count d.storage + d.faults)
         (S.bytes d.storage) d.size d.block.length (entries_of d.table) (count_of d.table)
@@ -413,7 +408,7 @@ impl<S: Storage> FormatDriverInstance for Cow<S> {
         offset: u64,
         count: u64,
         overwrite: bool,
-    ) -> Result<PreparedDataMapping<CowState>, Error>
+    ) -> Result<PreparedDataMapping<Ticket>, Error>
         requires spent { (⟦<Cow<S> as FormatDriverInstance>⟧.view self.old).pending ≡ None }
         requires inside { offset + count ≤ (⟦<Cow<S> as FormatDriverInstance>⟧.view self.old).size }
         ensures prepared { IfOk result
@@ -459,6 +454,7 @@ impl<S: Storage> FormatDriverInstance for Cow<S> {
             return Ok(PreparedDataMapping::existing(0, number * self.block.length + rest, run));
         }
         let ticket = self.tickets.wrapping_add(1);
+        let state = Ticket::new(ticket);
         let waiting = prepare_part(
             &mut self.storage,
             &mut self.faults,
@@ -472,7 +468,7 @@ impl<S: Storage> FormatDriverInstance for Cow<S> {
                 run,
                 kind: kind_of(entry),
                 overwrite,
-                state: CowState { ticket },
+                state,
             },
         )?;
         self.tickets = ticket;
@@ -483,7 +479,7 @@ impl<S: Storage> FormatDriverInstance for Cow<S> {
     fn write_prepared(
         &mut self,
         alloc: Global,
-        mapping: &PreparedDataMapping<CowState>,
+        mapping: &PreparedDataMapping<Ticket>,
         source: &[u8],
         at: u64,
     ) -> Result<(), Error> {
@@ -506,7 +502,7 @@ impl<S: Storage> FormatDriverInstance for Cow<S> {
         write_stored(&mut self.storage, alloc, source, start + at)
     }
 
-    fn commit_data_mapping(&mut self, mapping: PreparedDataMapping<CowState>) -> Result<(), Error>
+    fn commit_data_mapping(&mut self, mapping: PreparedDataMapping<Ticket>) -> Result<(), Error>
         ensures call { IsCommit ⟦<Cow<S> as FormatDriverInstance>⟧.view self.old self.new mapping
             result }
         ensures performed { ⟦<Cow<S> as FormatDriverInstance>⟧.calls.committed mapping self.old
@@ -527,7 +523,7 @@ impl<S: Storage> FormatDriverInstance for Cow<S> {
         Ok(())
     }
 
-    fn cancel_data_mapping(&mut self, mapping: PreparedDataMapping<CowState>)
+    fn cancel_data_mapping(&mut self, mapping: PreparedDataMapping<Ticket>)
         ensures call { IsCancel ⟦<Cow<S> as FormatDriverInstance>⟧.view self.old self.new mapping }
         ensures performed { ⟦<Cow<S> as FormatDriverInstance>⟧.calls.cancelled mapping self.old
             self.new }

@@ -335,6 +335,7 @@ pub fn open_to_write<H: WritableFiles>(
     path: &str,
     how: Opening,
 ) -> Result<Disk<FileStorage<H::File>>, OpenError>
+    ensures format { IfOk result (λ d. format_of d ≡ ImageFormat.Raw) }
     ensures shows { IfOk result (λ d. IfSome (H.contents host.old)
         (λ files. ShowsDisk how files path.now
         (values ⟦<AnyDriver<FileStorage<H::File>> as FormatDriverInstance>⟧.view d))) }

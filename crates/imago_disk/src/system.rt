@@ -62,20 +62,16 @@ impl<'a> SystemFiles<'a> {
         self.kept.replace(Vec::new(self.runtime.alloc()))
     }
 
-    /// The file of a path, open. It is no longer among those that are kept.
-    fn open(&self, path: &str) -> io::Result<OpenFile>
+    /// The file of a path, open: one of those that are kept, of which it is none any more, or one
+    /// that is opened now.
+    fn open(&self, kept: &mut Vec<OpenFile>, path: &str) -> io::Result<OpenFile>
         ensures { IfOk result (λ found. string_bytes found.path ≡ path.now) }
     {
-        let mut kept = self.take_kept();
-        let opened = match take_file(&mut kept, path) {
-            Some(open) => Ok(open),
-            None => {
-                close_unused(&mut kept, self.others);
-                self.open_anew(&mut kept, path)
-            }
-        };
-        self.kept.set(kept);
-        opened
+        if let Some(open) = take_file(kept, path) {
+            return Ok(open);
+        }
+        close_unused(kept, self.others);
+        self.open_anew(kept, path)
     }
 
     /// Opens the file of a path. Where that is refused, it is tried once more with all files closed
@@ -109,20 +105,54 @@ impl<'a> SystemFiles<'a> {
         ensures some { 0 < result.0 }
         ensures within { result.0 ≤ most }
     {
-        let Ok(mut open) = self.open(path) else {
-            return (most, true);
+        let mut kept = self.take_kept();
+        let run = match self.open(&mut kept, path) {
+            Ok(mut open) => {
+                let run = run_in(open.length(), offset, most);
+                put_last(&mut kept, open, self.others);
+                run
+            }
+            Err(_) => (most, true),
         };
-        let run = run_in(open.length(), offset, most);
-        self.keep(open);
+        self.kept.set(kept);
         run
     }
 
-    /// Keeps a file open, as the one that was used last.
-    fn keep(&self, open: OpenFile) {
-        let mut kept = self.take_kept();
-        put_last(&mut kept, open, self.others);
-        self.kept.set(kept);
+    /// Reads from the file of a path, which is kept open unless it refuses.
+    fn read(
+        &self,
+        kept: &mut Vec<OpenFile>,
+        path: &str,
+        buf: &mut [u8],
+        offset: u64,
+    ) -> io::Result<()> {
+        if let Some(read) = read_last(kept, path, buf, offset) {
+            return read;
+        }
+        let open = self.open(kept, path)?;
+        open.read(buf, offset)?;
+        put_last(kept, open, self.others);
+        Ok(())
     }
+}
+
+/// Reads from the file that was used last, if it is that of the path: then it keeps its place. It is
+/// closed where it refuses.
+fn read_last(
+    kept: &mut Vec<OpenFile>,
+    path: &str,
+    buf: &mut [u8],
+    offset: u64,
+) -> Option<io::Result<()>> {
+    let last = kept.last()?;
+    if last.path.as_str() != path {
+        return None;
+    }
+    let read = last.read(buf, offset);
+    if read.is_err() {
+        kept.pop();
+    }
+    Some(read)
 }
 
 /// Takes the file of a path out of those that are kept, if it is there. The one that was used last
@@ -260,10 +290,10 @@ impl<'a> Files for SystemFiles<'a> {
     }
 
     fn read_at(&self, path: &str, buf: &mut [u8], offset: u64) -> io::Result<()> {
-        let open = self.open(path)?;
-        open.read(buf, offset)?;
-        self.keep(open);
-        Ok(())
+        let mut kept = self.take_kept();
+        let read = self.read(&mut kept, path, buf, offset);
+        self.kept.set(kept);
+        read
     }
 
     fn is_same_file(&self, one: &str, other: &str) -> io::Result<bool> {

@@ -1,7 +1,7 @@
 -- SPDX-License-Identifier: MIT
-use Rattle.std.specs.Prelude.{◌≡◌, ℕ, ◌⊎◌, Bool, List, Result, Ok, Err}
+use Rattle.std.specs.Prelude.{◌≡◌, ℕ, ◌⊎◌, Bool, List, Result, Ok, Err, MatchOption}
 use Rattle.imago_storage.specs.declared.error.Error.{Error}
-use Rattle.imago_storage.specs.declared.error.Error.TheVariants.{Unsupported}
+use Rattle.imago_storage.specs.declared.error.Error.TheVariants.{Unsupported, ForeignMapping}
 use Rattle.imago_drivers.specs.declared.format.PreallocateMode.{PreallocateMode}
 use Rattle.imago_drivers.specs.declared.mapping.PreparedDataMapping.{PreparedDataMapping}
 use Rattle.imago_drivers.specs.declared.mapping.ShallowMapping.{ShallowMapping}
@@ -101,3 +101,9 @@ any_calls = record {
 -- it is refused as not offered, and nothing changes
 abbrev pub IsNotOffered : {Self T : Type 0} → Changing Self T
 IsNotOffered old new result = (new ≡ old) × (result ≡ Err Unsupported)
+
+-- A commit by a driver that prepares no mapping with a state: it changes nothing, and is refused
+-- only where the mapping has one, which is another driver's.
+abbrev pub IsIdleCommit : {Self St : Type 0} → Committing Self St
+IsIdleCommit m old new result = (new ≡ old)
+    × MatchOption m.state (result ≡ Ok tt) (λ s. result ≡ Err ForeignMapping)

@@ -11,6 +11,7 @@ use Rattle.imago_storage.specs.declared.options.PreallocateMode.TheVariants as S
 use Rattle.imago_drivers.specs.declared.format.PreallocateMode.{PreallocateMode as ImageMode}
 use Rattle.imago_drivers.specs.declared.format.PreallocateMode.TheVariants as Mode
 use Rattle.imago_drivers.specs.declared.format.Format.TheVariants as Format
+use Rattle.imago_drivers.specs.declared.mapping.Ticket.{Ticket}
 use Rattle.imago_drivers.specs.Operation.{Operation, Map, Read, Write, Zero, DiscardToZero}
 use Rattle.imago_drivers.specs.Operation.{DiscardToAny, DiscardToBacking, Grow, Shrink, Flush}
 use Rattle.imago_drivers.specs.Place.{Place, Byte, Stored, End}
@@ -129,7 +130,7 @@ raw_answers f size Shrink o n q m = Unit {0}
 raw_answers f size Flush o n q m = Unit {0}
 
 -- a raw image of that size over a storage
-abbrev pub raw_view : Features → ℕ → List ℕ → ℕ → Bool → View Unit
+abbrev pub raw_view : Features → ℕ → List ℕ → ℕ → Bool → View Ticket
 raw_view f fault_count bytes size writable = record {
   abilities = record {
     format = Format.Raw;

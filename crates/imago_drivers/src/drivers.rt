@@ -28,7 +28,7 @@ ghost use Rattle.imago_drivers.specs.Laws.{IsLawful, AreCauses};
 
 pub use crate::format::{Format, PreallocateMode};
 use crate::layer::LowerLayer;
-pub use crate::mapping::{PreparedDataMapping, ShallowMapping};
+pub use crate::mapping::{PreparedDataMapping, ShallowMapping, Ticket};
 use imago_storage::error::Error;
 use imago_storage::storage::Storage;
 use std::alloc::Global;

@@ -2,7 +2,7 @@
 //! What a range of a layer is, and where the data of a range is to be written.
 ghost use Rattle.std.specs.Prelude.{◌≡◌, Option, Some, None, is_none};
 ghost use Rattle.std.specs.Option.{option_copied};
-ghost use Rattle.imago_drivers.specs.Parts.{storage_of, offset_of, length_of, state_of};
+ghost use Rattle.imago_drivers.specs.Parts.{storage_of, offset_of, length_of, state_of, number_of};
 
 use std::fmt::{self, Formatter, Write};
 
@@ -38,6 +38,30 @@ pub enum ShallowMapping {
         /// Where the range begins for that call.
         offset: u64,
     },
+}
+
+/// What a prepared mapping of a driver of any format holds until it is committed: its number among
+/// those that the driver prepared. Two drivers count alike, so it doesn't tell whose the mapping
+/// is.
+#[derive(Clone, Copy, Debug, PartialEq, Eq)]
+pub struct Ticket {
+    number: u64,
+}
+
+impl Ticket {
+    /// The ticket of that number. For drivers.
+    pub fn new(number: u64) -> Self
+        ensures { number_of result ≡ «number» }
+    {
+        Ticket { number }
+    }
+
+    /// Its number. For drivers.
+    pub fn number(self) -> u64
+        ensures { result ≡ number_of self }
+    {
+        self.number
+    }
 }
 
 /// Where the data of a range is to be written: bytes of a storage of the driver, which show their

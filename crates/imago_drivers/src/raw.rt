@@ -22,15 +22,15 @@ ghost use Rattle.imago_drivers.specs.Calls.{IsDiscard, IsPreparation, IsGrowth, 
 ghost use Rattle.imago_drivers.specs.Reasons.{none};
 ghost use Rattle.imago_drivers.specs.RawLaws.{raw_lawful, raw_causes};
 ghost use Rattle.imago_drivers.specs.RawDiscards.{IsPartDiscarded, IsPartZeroed};
-ghost use Rattle.imago_drivers.specs.RawCalls.{HasNoSpecial, IsRawPrepared, IsRawCommitted};
-ghost use Rattle.imago_drivers.specs.RawCalls.{IsRawFilled, IsSizeBehind};
-ghost use Rattle.imago_drivers.specs.CallRelations.{any_calls, IsEnsuredInParts};
+ghost use Rattle.imago_drivers.specs.RawCalls.{HasNoSpecial, IsRawPrepared, IsRawFilled};
+ghost use Rattle.imago_drivers.specs.RawCalls.{IsSizeBehind};
+ghost use Rattle.imago_drivers.specs.CallRelations.{any_calls, IsEnsuredInParts, IsIdleCommit};
 ghost use Rattle.imago_drivers.specs.Place.{values};
 ghost use Rattle.imago_drivers.specs.Prepared.{IsPrepared};
 ghost use Rattle.imago_drivers.specs.Commit.{IsCommit, IsCancel};
 
 use crate::drivers::{
-    Format, FormatDriverInstance, PreallocateMode, PreparedDataMapping, ShallowMapping,
+    Format, FormatDriverInstance, PreallocateMode, PreparedDataMapping, ShallowMapping, Ticket,
 };
 use crate::layer::LowerLayer;
 pub use crate::raw_builder::{RawCreateBuilder, RawOpenBuilder, create_in};
@@ -124,7 +124,7 @@ pub(crate) fn storage_mode(mode: PreallocateMode) -> storage::PreallocateMode
 impl<S: Storage> FormatDriverInstance for Raw<S> {
     type Storage = S;
 
-    type State = ();
+    type State = Ticket;
 
     ghost view = { λ r. raw_view (S.features r.storage) (S.fault_count r.storage)
         (S.bytes r.storage) r.size r.writable };
@@ -161,9 +161,9 @@ impl<S: Storage> FormatDriverInstance for Raw<S> {
           (λ xs o old new result. IsRangeWrite S.features S.bytes S.fault_count S.work
           S.maintenance o xs old.storage new.storage result × (new.size ≡ old.size)
           × (new.writable ≡ old.writable)) m bytes at a b r;
-      committed = IsRawCommitted;
+      committed = IsIdleCommit;
       cancelled = λ m a b. b ≡ a;
-      ensured = IsEnsuredInParts IsRawPrepared IsRawCommitted;
+      ensured = IsEnsuredInParts IsRawPrepared IsIdleCommit;
       by_parts = λ below o n overwrite a b r h. h;
       grown = λ n mode below a b r. (n ≤ a.size → (b ≡ a) × (r ≡ Ok tt))
           × (a.size < n → S.maintenance.resized n (storage_mode_of mode) a.storage b.storage r
@@ -325,7 +325,7 @@ impl<S: Storage> FormatDriverInstance for Raw<S> {
         offset: u64,
         count: u64,
         _overwrite: bool,
-    ) -> Result<PreparedDataMapping<()>, Error>
+    ) -> Result<PreparedDataMapping<Ticket>, Error>
         requires inside { offset + count ≤ (⟦<Raw<S> as FormatDriverInstance>⟧.view self.old).size }
         ensures prepared { IfOk result
             (λ m. IsPrepared offset count _overwrite
@@ -348,7 +348,7 @@ impl<S: Storage> FormatDriverInstance for Raw<S> {
     fn write_prepared(
         &mut self,
         alloc: Global,
-        mapping: &PreparedDataMapping<()>,
+        mapping: &PreparedDataMapping<Ticket>,
         source: &[u8],
         at: u64,
     ) -> Result<(), Error> {
@@ -373,7 +373,7 @@ impl<S: Storage> FormatDriverInstance for Raw<S> {
         write_bytes(&mut self.storage, alloc, source, mapping.offset + at)
     }
 
-    fn commit_data_mapping(&mut self, mapping: PreparedDataMapping<()>) -> Result<(), Error>
+    fn commit_data_mapping(&mut self, mapping: PreparedDataMapping<Ticket>) -> Result<(), Error>
         ensures call { IsCommit ⟦<Raw<S> as FormatDriverInstance>⟧.view self.old self.new mapping
             result }
         ensures performed { ⟦<Raw<S> as FormatDriverInstance>⟧.calls.committed mapping self.old
@@ -381,11 +381,11 @@ impl<S: Storage> FormatDriverInstance for Raw<S> {
     {
         match mapping.into_state() {
             None => Ok(()),
-            Some(()) => Err(Error::ForeignMapping),
+            Some(_) => Err(Error::ForeignMapping),
         }
     }
 
-    fn cancel_data_mapping(&mut self, mapping: PreparedDataMapping<()>)
+    fn cancel_data_mapping(&mut self, mapping: PreparedDataMapping<Ticket>)
         ensures call { IsCancel ⟦<Raw<S> as FormatDriverInstance>⟧.view self.old self.new mapping }
         ensures performed { ⟦<Raw<S> as FormatDriverInstance>⟧.calls.cancelled mapping self.old
             self.new }

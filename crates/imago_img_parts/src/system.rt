@@ -82,12 +82,14 @@ impl<'a> System<'a> {
     }
 }
 
-/// Writes those blocks of the data that aren't zero, in as few calls as there are runs of them.
+/// Writes what of the data isn't zero, by blocks of the file, in as few calls as there are runs of
+/// them.
 fn write_blocks(file: &File, source: &[u8], offset: u64) -> io::Result<()> {
     let mut begin = 0;
     let mut end = 0;
     while end < source.len() {
-        let next = end + (source.len() - end).min(BLOCK);
+        let within = offset.wrapping_add(end as u64) % BLOCK as u64;
+        let next = end + (source.len() - end).min(BLOCK - within as usize);
         if is_zero(&source[end..next]) {
             file.write_all_at(&source[begin..end], offset.wrapping_add(begin as u64))?;
             begin = next;

@@ -19,6 +19,13 @@ eighth bits length least is =
     let p : length ≡ 2 ^ (bits - 3) * 2 ^ 3 = is ∙ sym (ap (λ x. 2 ^ x) e) ∙ pow-add 2 (bits - 3) 3 in
     omega (arith, p)
 
+-- and has a half
+pub halved : (bits length : ℕ) → 9 ≤ bits → length ≡ 2 ^ bits → length ≡ length / 2 * 2
+halved bits length least is =
+    let e : bits - 1 + 1 ≡ bits = omega (arith, least) in
+    let p : length ≡ 2 ^ (bits - 1) * 2 ^ 1 = is ∙ sym (ap (λ x. 2 ^ x) e) ∙ pow-add 2 (bits - 1) 1 in
+    omega (arith, p)
+
 -- and so is what an L2 table is for: as many clusters as its entries
 pub span_power : (bits length : ℕ) → 9 ≤ bits → length ≡ 2 ^ bits → length / 8 * length ≡ 2 ^ (2 * bits - 3)
 span_power bits length least is =

@@ -1,6 +1,6 @@
 -- What the tables in memory say of guest clusters.
 -- SPDX-License-Identifier: MIT
-use Rattle.std.proofs.Common.{◌≡◌, ℕ, ◌+◌, ◌-◌, ◌*◌, ◌/◌, ◌%◌, ◌<◌, ◌≤◌, List, length, get_or, Option, Some, None, refl, sym, ap, ◌∙◌, arith}
+use Rattle.std.proofs.Common.{◌≡◌, ℕ, ◌+◌, ◌-◌, ◌*◌, ◌/◌, ◌%◌, ◌<◌, ◌≤◌, ◌⊎◌, ⊎_elim, List, length, get_or, Option, Some, None, refl, sym, ap, ◌∙◌, arith}
 use Rattle.std.specs.Prelude.{slice_get, IfSome}
 use Rattle.std.specs.Int.{div_ceil}
 use Rattle.std.specs.declared.sync.ArcSlice.{ArcSlice}
@@ -73,6 +73,20 @@ module _ (loaded : LoadedImage) (least : 512 ≤ loaded.cluster) where
   pub all_invalid : (o i : ℕ) → i < span - o % span → slice_get loaded.l1 (o / span) ≡ Some HeldTable.Invalid → loaded_cluster loaded ((o + i) / loaded.cluster) ≡ GuestCluster.Invalid
   all_invalid o i near there = alike o i HeldTable.Invalid GuestCluster.Invalid (λ n. refl) near there
 
+  pub none_stored : (o at : ℕ) (t : HeldTable) → (t ≡ HeldTable.Absent) ⊎ (t ≡ HeldTable.Invalid) → slice_get loaded.l1 (o / span) ≡ Some t → loaded_cluster loaded (o / loaded.cluster) ≡ GuestCluster.Stored at → ⊥
+  none_stored o at t none there is =
+      let said = by_held o t there in
+      ⊎_elim
+      (λ (absent : t ≡ HeldTable.Absent).
+      let e : held_cluster loaded (o / loaded.cluster) (Some t) ≡ GuestCluster.Absent = ap (λ x. held_cluster loaded (o / loaded.cluster) (Some x)) absent in
+      let clash : GuestCluster.Stored at ≡ GuestCluster.Absent = sym is ∙ said ∙ e in
+      let z : ⊥ = cc in z)
+      (λ (invalid : t ≡ HeldTable.Invalid).
+      let e : held_cluster loaded (o / loaded.cluster) (Some t) ≡ GuestCluster.Invalid = ap (λ x. held_cluster loaded (o / loaded.cluster) (Some x)) invalid in
+      let clash : GuestCluster.Stored at ≡ GuestCluster.Invalid = sym is ∙ said ∙ e in
+      let z : ⊥ = cc in z)
+      none
+
   -- an index in an L2 table is one of an entry
   pub index_fits : (o : ℕ) → 8 * (o / loaded.cluster % (loaded.cluster / 8)) + 8 ≤ loaded.cluster
   index_fits o = let x : o / loaded.cluster % (loaded.cluster / 8) < loaded.cluster / 8 = mod-lt (o / loaded.cluster) (let y : 0 < loaded.cluster / 8 = omega (arith, least) in y) in omega (arith, x)
@@ -83,11 +97,16 @@ module _ (loaded : LoadedImage) (least : 512 ≤ loaded.cluster) where
   entry_said o entry (Some t) some h = ap (cluster_in_entry loaded.version loaded.cluster) (sym h)
 
   -- with one, the guest cluster is what the entry says
+  pub by_entry_here : (o number entry : ℕ) → slice_get loaded.l1 (o / span) ≡ Some (HeldTable.Loaded number) → (slice_get loaded.l2 number ≡ None → ⊥)
+      → IfSome (slice_get loaded.l2 number) (λ t. entry ≡ be64 (arc_slice_items t) (8 * (o / loaded.cluster % (loaded.cluster / 8)))) → loaded_cluster loaded (o / loaded.cluster) ≡ cluster_in_entry loaded.version loaded.cluster entry
+  by_entry_here o number entry there some is =
+      by_held o (HeldTable.Loaded number) there ∙ entry_said o entry (slice_get loaded.l2 number) some is
+
   pub by_entry : (o i number entry : ℕ) → i < loaded.cluster - o % loaded.cluster → slice_get loaded.l1 (o / span) ≡ Some (HeldTable.Loaded number) → (slice_get loaded.l2 number ≡ None → ⊥)
       → IfSome (slice_get loaded.l2 number) (λ t. entry ≡ be64 (arc_slice_items t) (8 * (o / loaded.cluster % (loaded.cluster / 8)))) → loaded_cluster loaded ((o + i) / loaded.cluster) ≡ cluster_in_entry loaded.version loaded.cluster entry
   by_entry o i number entry near there some is =
       ap (loaded_cluster loaded) (same_block loaded.cluster (omega (arith, least)) o i near)
-      ∙ by_held o (HeldTable.Loaded number) there ∙ entry_said o entry (slice_get loaded.l2 number) some is
+      ∙ by_entry_here o number entry there some is
 
 -- an L2 table that an L1 entry is held by is in memory
 module _ (f : Features) (bytes : List ℕ) (h : Header) (tables : Tables) (i number : ℕ) (e : slice_get tables.l1.items i ≡ Some (HeldTable.Loaded number)) where

@@ -1,5 +1,6 @@
 -- SPDX-License-Identifier: MIT
 pub mod NumberSteps
+pub mod EntrySteps
 pub mod HeaderSteps
 pub mod TableSteps
 pub mod LimitSteps
@@ -7,6 +8,7 @@ pub mod ClusterSteps
 pub mod AbsentSteps
 pub mod MapSteps
 pub mod HeldSteps
+pub mod SoundSteps
 pub mod ReadSteps
 pub mod CompressedSteps
 pub mod CommitSteps

@@ -1,6 +1,6 @@
 -- Places of the disk, and how mappings name them.
 -- SPDX-License-Identifier: MIT
-use Rattle.std.proofs.Common.{◌≡◌, ℕ, ◌+◌, ◌-◌, ◌*◌, ◌/◌, ◌%◌, ◌<◌, ◌≤◌, ◌⊎◌, ⊎_elim, inl, inr, List, refl, sym, ap, ◌∙◌, arith, min}
+use Rattle.std.proofs.Common.{◌≡◌, ℕ, ◌+◌, ◌-◌, ◌*◌, ◌/◌, ◌%◌, ◌<◌, ◌≤◌, ◌⊎◌, ⊎_elim, inl, inr, Bool, false, List, slice_index, refl, sym, ap, ◌∙◌, arith, min}
 use Rattle.std.proofs.lemmas.Nat.{div-add-mod', div-mul-add, mod-mul-add}
 use Rattle.std.proofs.lemmas.Bool.{cases_lt}
 use Rattle.std.proofs.Math.Nat.{mod-lt}
@@ -206,3 +206,41 @@ asked_for place o size asked most known n m inside is some names ends none = ⊎
     let named : Names m 0 (place o) = names_first place o known m some names in
     absurd (no (rw (e, none) named)))
     ends
+
+-- a mapping of stored bytes, and the one that begins further on
+pub raw_on : (storage at n i : ℕ) (writable : Bool) (p : Place) → Names (M.Raw storage (at + n) writable) i p → Names (M.Raw storage at writable) (n + i) p
+raw_on storage at n i writable p h =
+    let e : at + n + i ≡ at + (n + i) = omega arith in
+    (h.0, h.1 ∙ ap (λ x. Stored (h.0) storage x writable) e)
+
+pub raw_back : (storage at n : ℕ) (writable : Bool) (p : Place) → Names (M.Raw storage at writable) n p → Names (M.Raw storage (at + n) writable) 0 p
+raw_back storage at n writable p h =
+    let e : at + n ≡ at + n + 0 = omega arith in
+    (h.0, h.1 ∙ ap (λ x. Stored (h.0) storage x writable) e)
+
+-- a place of stored bytes stands in a guest cluster that is stored, and tells where
+stored_by : (packed : ℕ → ℕ → ℕ → Value) (bytes : List ℕ) (rest p at : ℕ) (k : GuestCluster) → Names (M.Raw 0 at false) 0 (place_by packed bytes rest p k) → (start : ℕ) × (k ≡ GuestCluster.Stored start) × (start + rest ≡ at)
+stored_by packed bytes rest p at (C.Stored start) h =
+    let there = h.1 in
+    let is : start + rest ≡ at + 0 = cc in
+    (start, refl, omega (arith, is))
+stored_by packed bytes rest p at C.Absent h = let there = h.1 in let z : ⊥ = cc in absurd z
+stored_by packed bytes rest p at C.Zero h = let there = h.1 in let z : ⊥ = cc in absurd z
+stored_by packed bytes rest p at (C.Compressed from n) h = let there = h.1 in let z : ⊥ = cc in absurd z
+stored_by packed bytes rest p at C.Invalid h = let there = h.1 in let z : ⊥ = cc in absurd z
+
+module _ (f : Features) (bytes : List ℕ) (loaded : LoadedImage) (positive : 0 < loaded.cluster) (o at : ℕ) where
+  -- the places of a guest cluster that is stored
+  pub stored_named : (start i : ℕ) → loaded_cluster loaded (o / loaded.cluster) ≡ GuestCluster.Stored start → start + o % loaded.cluster ≡ at → i < loaded.cluster - o % loaded.cluster → o + i < loaded.size
+      → Names (M.Raw 0 at false) i (loaded_place f loaded bytes (o + i))
+  stored_named start i is from near under =
+      let e : start + (o % loaded.cluster + i) ≡ at + i = omega (arith, from) in
+      let k : loaded_cluster loaded ((o + i) / loaded.cluster) ≡ GuestCluster.Stored start = ap (loaded_cluster loaded) (same_block loaded.cluster positive o i near) ∙ is in
+      let b = slice_index bytes (start + (o % loaded.cluster + i)) in
+      (b, place_of f bytes loaded o positive (GuestCluster.Stored start) i k (λ x y. near) (λ x n y. near) under ∙ ap (λ x. Stored b 0 x false) e)
+
+  -- one that is named as stored bytes stands in such a guest cluster
+  pub named_stored : o < loaded.size → Names (M.Raw 0 at false) 0 (loaded_place f loaded bytes o) → (start : ℕ) × (loaded_cluster loaded (o / loaded.cluster) ≡ GuestCluster.Stored start) × (start + o % loaded.cluster ≡ at)
+  named_stored under h =
+      let place = in_disk f.tells_bytes bytes (loaded_disk loaded) o under in
+      stored_by (packed_bytes f bytes loaded o) bytes (o % loaded.cluster) o at (loaded_cluster loaded (o / loaded.cluster)) (rw place at h)

@@ -8,6 +8,7 @@ use Rattle.imago_storage.specs.Features.{Features, IsAlignedRequest, MayRunOut}
 use Rattle.imago_storage.specs.Padding.{Wraps}
 use Rattle.imago_drivers.specs.declared.format.Format.TheVariants as Format
 use Rattle.imago_drivers.specs.declared.mapping.ShallowMapping.{ShallowMapping}
+use Rattle.imago_drivers.specs.declared.mapping.Ticket.{Ticket}
 use Rattle.imago_drivers.specs.Operation.{Operation, Map, Read, Write, Zero, DiscardToZero}
 use Rattle.imago_drivers.specs.Operation.{DiscardToAny, DiscardToBacking, Grow, Shrink, Flush}
 use Rattle.imago_drivers.specs.Place.{Value, Place, Special, IsIn, PlacesStandAt, own_values}
@@ -32,6 +33,14 @@ pub record IsLongest (place : ℕ → Place) (size o n m : ℕ) : Type 0 where
   pub ends : (m ≡ n) ⊎ (m ≡ size - o)
       ⊎ ((mapping : ShallowMapping) → Names mapping 0 (place o) → Names mapping m (place (o + m))
       → ⊥)
+
+-- a mapping names so many places from o on
+abbrev pub NamesFirst : (ℕ → Place) → ℕ → ShallowMapping → ℕ → Type 0
+NamesFirst place o mapping n = (i : ℕ) → i < n → Names mapping i (place (o + i))
+
+-- and not the next one, unless so many are all that are asked for
+abbrev pub StopsAt : (ℕ → Place) → ℕ → ShallowMapping → ℕ → ℕ → Type 0
+StopsAt place o mapping most n = (n ≡ most) ⊎ (Names mapping n (place (o + n)) → ⊥)
 
 -- a place of the range is compressed
 abbrev pub IsCompressedIn : (ℕ → Place) → ℕ → ℕ → Type 0
@@ -106,7 +115,7 @@ qcow2_offers by (Grow mode) = false
 qcow2_offers by Shrink = false
 
 -- the disk with these places, whose file has these bytes, in a storage of these features
-abbrev pub view_with : Features → List ℕ → GuestDisk → (ℕ → Place) → View Unit
+abbrev pub view_with : Features → List ℕ → GuestDisk → (ℕ → Place) → View Ticket
 view_with f bytes disk place = record {
   abilities = record {
     format = Format.Qcow2;
@@ -137,13 +146,13 @@ view_with f bytes disk place = record {
 }
 
 -- the disk, whose file has these bytes, in a storage of these features
-abbrev pub file_view : Features → List ℕ → GuestDisk → View Unit
+abbrev pub file_view : Features → List ℕ → GuestDisk → View Ticket
 file_view f bytes disk = view_with f bytes disk (disk_place f.tells_bytes bytes disk)
 
 -- the disk by the bytes of its file alone
-abbrev pub qcow2_view : Features → List ℕ → View Unit
+abbrev pub qcow2_view : Features → List ℕ → View Ticket
 qcow2_view f bytes = file_view f bytes (disk_of bytes)
 
 -- The disk by what was loaded of the file. It is the one above where the storage tells its bytes.
-abbrev pub loaded_view : Features → List ℕ → LoadedImage → View Unit
+abbrev pub loaded_view : Features → List ℕ → LoadedImage → View Ticket
 loaded_view f bytes loaded = file_view f bytes (loaded_disk loaded)

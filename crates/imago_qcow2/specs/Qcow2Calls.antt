@@ -12,6 +12,8 @@ use Rattle.imago_drivers.specs.LayerBelow.{LayerBelow}
 use Rattle.imago_drivers.specs.Place.{IsIn}
 use Rattle.imago_drivers.specs.Reasons.{allowed}
 use Rattle.imago_drivers.specs.CallRelations.{Calls, IsEnsuredInParts, any_calls, IsNotOffered}
+use Rattle.imago_drivers.specs.CallRelations.{IsIdleCommit}
+use Rattle.imago_drivers.specs.declared.mapping.Ticket.{Ticket}
 use Rattle.imago_inflate.specs.declared.fault.InflateError.{InflateError}
 use Rattle.imago_inflate.specs.Inflate.{inflated}
 use Rattle.imago_qcow2.specs.declared.entry.GuestCluster.{GuestCluster}
@@ -82,8 +84,8 @@ IsSpecialRead f bytes disk o n (Err e) = (p : ℕ) × IsIn o n p × (IsReadOf f 
 -- a data mapping is refused as its preparing is
 pub ensured_by_parts : {Self : Type 0} (below : LayerBelow) (o n : ℕ) (overwrite : Bool)
     (old new : Self) (result : Result (ℕ × ℕ × ℕ) Error)
-    → IsEnsuredInParts {St = Unit {0}} (λ below o n overwrite. IsNotOffered)
-    (λ m old new result. new ≡ old) below o n overwrite old new result → IsNotOffered old new result
+    → IsEnsuredInParts {St = Ticket} (λ below o n overwrite. IsNotOffered) IsIdleCommit below o n
+    overwrite old new result → IsNotOffered old new result
 ensured_by_parts below o n overwrite old new (Ok r) p = let no = p.2.1 in let z : ⊥ = cc in absurd z
 ensured_by_parts below o n overwrite old new (Err e) p = ⊎_elim
     (λ q. let same = q.1 in let is : e ≡ Unsupported = cc in (q.0, rw is refl))
@@ -93,7 +95,7 @@ ensured_by_parts below o n overwrite old new (Err e) p = ⊎_elim
 -- What the calls of an image are, by the features and the bytes of its file, and its disk. It can't
 -- be written to: a call that would change something is refused, and no call changes the driver.
 abbrev pub qcow2_calls : {Self : Type 0} → (Self → Features) → (Self → List ℕ)
-    → (Self → GuestDisk) → Calls Self (Unit {0})
+    → (Self → GuestDisk) → Calls Self Ticket
 qcow2_calls features bytes disk = record any_calls {
   read = λ index o n self result. IsFileRead (features self) (bytes self) o n result;
   read_special = λ o n self result. IsSpecialRead (features self) (bytes self) (disk self) o n
@@ -105,7 +107,7 @@ qcow2_calls features bytes disk = record any_calls {
   discarded_to_backing = λ o n. IsNotOffered;
   prepared = λ below o n overwrite. IsNotOffered;
   filled = λ m source at old new result. (new ≡ old) × (result ≡ Err ForeignMapping);
-  committed = λ m old new result. new ≡ old;
+  committed = IsIdleCommit;
   cancelled = λ m old new. new ≡ old;
   ensured = λ below o n overwrite. IsNotOffered;
   by_parts = ensured_by_parts;

@@ -7,7 +7,7 @@ ghost use Rattle.imago_qcow2.specs.Tables.{held_cluster, loaded_of};
 ghost use Rattle.imago_qcow2.specs.Absent.{AreAbsentEntries, AreEnds, AreEndsOf, AreAbsent};
 ghost use Rattle.imago_qcow2.specs.Absent.{IsAbsentEntry, AreTableRuns, IsAbsentIndex};
 
-use crate::entry::GuestCluster;
+use crate::entry::{COPIED, GuestCluster};
 use crate::header::Header;
 use crate::number::number64;
 use crate::table::{HeldTable, Tables};
@@ -16,9 +16,6 @@ use std::sync::ArcSlice;
 
 /// How many entries of an L2 table share a number of the index.
 const GROUP: usize = 16;
-
-/// The bit of an entry that says nothing here: that the cluster is used once.
-const COPIED: u64 = 0x8000_0000_0000_0000;
 
 /// The most bytes of an L2 table: those of the longest cluster.
 const LONGEST_TABLE: usize = 1 << 21;

@@ -1,13 +1,16 @@
 // SPDX-License-Identifier: MIT
 //! What the entries of an image's tables say.
-ghost use Rattle.std.specs.Prelude.{◌≡◌, ℕ, ◌^◌, ◌<◌, IfSome, None};
+ghost use Rattle.std.specs.Prelude.{◌≡◌, ℕ, ◌^◌, ◌<◌, IfSome, None, true, false};
 ghost use Rattle.imago_qcow2.specs.Entry.{table_in_entry, cluster_in_entry};
 ghost use Rattle.imago_qcow2.specs.Entry.{cluster_bits, compressed_in_entry};
 
 use crate::cluster::ClusterSize;
 
 /// An entry's lower 56 bits are an offset of the file; its upper 8 say other things.
-const OFFSETS: u64 = 1 << 56;
+pub(crate) const OFFSETS: u64 = 1 << 56;
+
+/// The bit of an entry that says nothing here: that the cluster is used once.
+pub(crate) const COPIED: u64 = 1 << 63;
 
 /// The bit of an L2 entry that is set for a compressed cluster. The bits below say where it stands.
 const COMPRESSED: u64 = 1 << 62;
@@ -123,4 +126,21 @@ pub(crate) fn cluster_in(version: u32, cluster: ClusterSize, entry: u64) -> Gues
         return GuestCluster::Absent;
     }
     GuestCluster::Stored(low)
+}
+
+/// Whether an L2 entry says that its guest cluster stands at that offset of the file, in either
+/// version. Nothing but its lower 63 bits is looked at where these say another offset.
+pub(crate) fn says_stored(cluster: ClusterSize, entry: u64, at: u64) -> bool
+    ensures yes { result ≡ true → (version : ℕ)
+        → cluster_in_entry version cluster.length entry ≡ GuestCluster.Stored at }
+    ensures no { result ≡ false → (version : ℕ)
+        → cluster_in_entry version cluster.length entry ≡ GuestCluster.Stored at → ⊥ }
+{
+    if entry % COPIED != at {
+        return false;
+    }
+    if at == 0 || at >= OFFSETS {
+        return false;
+    }
+    cluster.rest(at) == 0
 }

@@ -1,6 +1,7 @@
 // SPDX-License-Identifier: MIT
 //! Mappings of places of the disk.
 ghost use Rattle.std.specs.Prelude.{◌≡◌, ℕ, ◌+◌, ◌-◌, ◌^◌, ◌<◌, ◌≤◌, true, false, IfOk, IfErr};
+ghost use Rattle.std.specs.Prelude.{IfSome};
 ghost use Rattle.imago_storage.specs.declared.error.Error.{Error};
 ghost use Rattle.imago_drivers.specs.Place.{Place};
 ghost use Rattle.imago_drivers.specs.Mapping.{Names};
@@ -90,5 +91,27 @@ pub(crate) fn goes_on(first: ShallowMapping, by: u64, next: ShallowMapping) -> b
             _ => false,
         },
         ShallowMapping::Eof => false,
+    }
+}
+
+/// Where in the driver's first storage the bytes stand that a mapping names, if it is one of stored
+/// bytes, and so many of them have an offset there.
+pub(crate) fn stored_from(mapping: ShallowMapping, most: u64) -> Option<u64>
+    ensures { IfSome result
+        (λ at. (mapping ≡ ShallowMapping.Raw 0 at false) × (at + most < 2 ^ 64)) }
+{
+    match mapping {
+        ShallowMapping::Raw {
+            storage,
+            offset,
+            writable,
+        } => {
+            if storage == 0 && !writable && offset <= u64::MAX - most {
+                Some(offset)
+            } else {
+                None
+            }
+        }
+        _ => None,
     }
 }

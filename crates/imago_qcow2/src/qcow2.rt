@@ -25,7 +25,7 @@ ghost use Rattle.imago_qcow2.specs.Opening.{read_reasons, header_reasons, probe_
 ghost use Rattle.imago_qcow2.specs.Opening.{IsOpened, IsRefusedOpening, IsRefusedOverlay};
 ghost use Rattle.imago_qcow2.specs.Opening.{IsRefusedAlone};
 ghost use Rattle.imago_qcow2.specs.Opening.{probe_reasons_of};
-ghost use Rattle.imago_qcow2.specs.Qcow2.{loaded_view};
+ghost use Rattle.imago_qcow2.specs.Qcow2.{loaded_view, NamesFirst, StopsAt};
 ghost use Rattle.imago_qcow2.specs.Qcow2Calls.{qcow2_calls, IsClusterRead, IsFirstRead};
 ghost use Rattle.imago_qcow2.specs.Qcow2Calls.{IsClusterFault, IsFaultUnknown};
 ghost use Rattle.imago_qcow2.specs.Qcow2Calls.{IsSpecialRead};
@@ -35,17 +35,17 @@ use crate::absent::AbsentRuns;
 use crate::backing::find_format;
 use crate::cluster::ClusterSize;
 use crate::compressed::{fault_of, unpack};
-use crate::entry::{GuestCluster, cluster_in};
+use crate::entry::{GuestCluster, cluster_in, says_stored};
 pub use crate::fault::OpenFault;
 use crate::header::{self, Compression, HEAD_LENGTH, Header, MAGIC};
-use crate::map::{goes_on, mapping_of};
+use crate::map::{goes_on, mapping_of, stored_from};
 use crate::memory::NothingShared;
 pub use crate::memory::TableMemory;
 use crate::number::number32;
 pub use crate::qcow2_builder::Qcow2OpenBuilder;
 use crate::table::{HeldTable, Tables, entry_at, read_bytes, read_tables};
 use imago_drivers::drivers::{
-    Format, FormatDriverInstance, PreallocateMode, PreparedDataMapping, ShallowMapping,
+    Format, FormatDriverInstance, PreallocateMode, PreparedDataMapping, ShallowMapping, Ticket,
 };
 use imago_drivers::layer::LowerLayer;
 use imago_inflate::fault::InflateError;
@@ -68,10 +68,10 @@ use std::fmt::{self, Display, Formatter, Write};
 #[derive(Drop)]
 pub struct Qcow2<S: Storage> {
     storage: S,
-    header: Header,
-    cluster: ClusterSize,
-    tables: Tables,
-    absent: AbsentRuns,
+    pub(crate) header: Header,
+    pub(crate) cluster: ClusterSize,
+    pub(crate) tables: Tables,
+    pub(crate) absent: AbsentRuns,
     ghost cluster_is: { cluster.length ≡ header_cluster header },
     ghost fits: { header.size < 2 ^ 64 },
     ghost covers: { header.size ≤ length tables.l1.items
@@ -469,6 +469,110 @@ impl<S: Storage> Qcow2<S> {
         Ok((mapping, same.min(self.header.size - offset)))
     }
 
+    /// Whether the guest cluster at that offset of the disk stands at that offset of the file.
+    fn is_stored_at(&self, offset: u64, at: u64) -> bool
+        requires { offset < self.now.header.size }
+        ensures yes { result ≡ true
+            → loaded_cluster (loaded_in self.now) (offset / self.now.cluster.length)
+            ≡ GuestCluster.Stored at }
+        ensures no { result ≡ false
+            → loaded_cluster (loaded_in self.now) (offset / self.now.cluster.length)
+            ≡ GuestCluster.Stored at
+            → ⊥ }
+    {
+        match self.tables.l1[self.l1_index(offset)] {
+            HeldTable::Loaded(number) => {
+                let entry = entry_at(&self.tables.l2, number, self.cluster.l2_index(offset));
+                says_stored(self.cluster, entry, at)
+            }
+            HeldTable::Absent | HeldTable::Invalid => false,
+        }
+    }
+
+    /// How many bytes from that offset of the disk on are known to stand from that offset of the
+    /// file on: none, where the first one doesn't.
+    fn stored_part(&self, offset: u64, at: u64) -> u64
+        requires { offset < self.now.header.size }
+        ensures names { NamesFirst
+            (loaded_place (S.features self.now.storage) (loaded_in self.now)
+            (S.bytes self.now.storage))
+            offset (ShallowMapping.Raw 0 at false) result }
+        ensures inside { offset + result ≤ self.now.header.size }
+        ensures none { result ≡ 0
+            → Names (ShallowMapping.Raw 0 at false) 0
+            (loaded_place (S.features self.now.storage) (loaded_in self.now)
+            (S.bytes self.now.storage) offset)
+            → ⊥ }
+    {
+        let rest = self.cluster.rest(offset);
+        if at < rest || !self.is_stored_at(offset, at - rest) {
+            return 0;
+        }
+        (self.cluster.length - rest).min(self.header.size - offset)
+    }
+
+    /// How many places from that offset of the disk on stand from that offset of the file on, up to
+    /// `most` of them. It is known of the first ones.
+    fn longest_stored(&self, at: u64, offset: u64, known: u64, most: u64) -> u64
+        requires names { NamesFirst
+            (loaded_place (S.features self.now.storage) (loaded_in self.now)
+            (S.bytes self.now.storage))
+            offset (ShallowMapping.Raw 0 at false) known }
+        requires known { offset + known ≤ self.now.header.size }
+        requires most { offset + most ≤ self.now.header.size }
+        requires reach { at + most < 2 ^ 64 }
+        ensures names { NamesFirst
+            (loaded_place (S.features self.now.storage) (loaded_in self.now)
+            (S.bytes self.now.storage))
+            offset (ShallowMapping.Raw 0 at false) result }
+        ensures most { result ≤ most }
+        ensures ends { StopsAt
+            (loaded_place (S.features self.now.storage) (loaded_in self.now)
+            (S.bytes self.now.storage))
+            offset (ShallowMapping.Raw 0 at false) most result }
+    {
+        let mut count = known;
+        while count < most {
+            let more = self.stored_part(offset + count, at + count);
+            if more == 0 {
+                return count;
+            }
+            count += more;
+        }
+        most
+    }
+
+    /// The same of any mapping.
+    fn longest_of_any(&self, mapping: ShallowMapping, offset: u64, known: u64, most: u64) -> u64
+        requires names { NamesFirst
+            (loaded_place (S.features self.now.storage) (loaded_in self.now)
+            (S.bytes self.now.storage))
+            offset mapping known }
+        requires known { offset + known ≤ self.now.header.size }
+        requires most { offset + most ≤ self.now.header.size }
+        ensures names { NamesFirst
+            (loaded_place (S.features self.now.storage) (loaded_in self.now)
+            (S.bytes self.now.storage))
+            offset mapping result }
+        ensures most { result ≤ most }
+        ensures ends { StopsAt
+            (loaded_place (S.features self.now.storage) (loaded_in self.now)
+            (S.bytes self.now.storage))
+            offset mapping most result }
+    {
+        let mut count = known;
+        while count < most {
+            let Ok((next, more)) = self.part_at(offset + count) else {
+                return count;
+            };
+            if !goes_on(mapping, count, next) {
+                return count;
+            }
+            count += more;
+        }
+        most
+    }
+
     /// How many places from that offset of the disk on the mapping names, up to `most` of them. It
     /// is known of the first ones.
     fn longest(&self, mapping: ShallowMapping, offset: u64, known: u64, most: u64) -> u64
@@ -491,17 +595,10 @@ impl<S: Storage> Qcow2<S> {
             (S.bytes self.now.storage) (offset + result))
             → ⊥) }
     {
-        let mut count = known;
-        while count < most {
-            let Ok((next, more)) = self.part_at(offset + count) else {
-                return count;
-            };
-            if !goes_on(mapping, count, next) {
-                return count;
-            }
-            count += more;
+        match stored_from(mapping, most) {
+            Some(at) => self.longest_stored(at, offset, known, most),
+            None => self.longest_of_any(mapping, offset, known, most),
         }
-        most
     }
 
     /// Whether compressed clusters are deflated, and a range that isn't empty lies in the disk.
@@ -607,7 +704,7 @@ impl<S: Storage> Display for Qcow2<S> {
 impl<S: Storage> FormatDriverInstance for Qcow2<S> {
     type Storage = S;
 
-    type State = ();
+    type State = Ticket;
 
     ghost use Rattle.imago_qcow2.specs.Qcow2Image.{loaded_in};
 
@@ -774,7 +871,7 @@ impl<S: Storage> FormatDriverInstance for Qcow2<S> {
         _offset: u64,
         _count: u64,
         _overwrite: bool,
-    ) -> Result<PreparedDataMapping<()>, Error>
+    ) -> Result<PreparedDataMapping<Ticket>, Error>
         ensures unsupported { IsErrOf result Error.Unsupported }
         ensures untouched { self.new ≡ self.old }
     {
@@ -784,14 +881,14 @@ impl<S: Storage> FormatDriverInstance for Qcow2<S> {
     fn write_prepared(
         &mut self,
         _alloc: Global,
-        _mapping: &PreparedDataMapping<()>,
+        _mapping: &PreparedDataMapping<Ticket>,
         _source: &[u8],
         _at: u64,
     ) -> Result<(), Error> {
         Err(Error::ForeignMapping)
     }
 
-    fn commit_data_mapping(&mut self, mapping: PreparedDataMapping<()>) -> Result<(), Error>
+    fn commit_data_mapping(&mut self, mapping: PreparedDataMapping<Ticket>) -> Result<(), Error>
         ensures call { IsCommit ⟦<Qcow2<S> as FormatDriverInstance>⟧.view self.old self.new mapping
             result }
         ensures untouched { self.new ≡ self.old }
@@ -800,11 +897,11 @@ impl<S: Storage> FormatDriverInstance for Qcow2<S> {
     {
         match mapping.into_state() {
             None => Ok(()),
-            Some(()) => Err(Error::ForeignMapping),
+            Some(_) => Err(Error::ForeignMapping),
         }
     }
 
-    fn cancel_data_mapping(&mut self, mapping: PreparedDataMapping<()>)
+    fn cancel_data_mapping(&mut self, mapping: PreparedDataMapping<Ticket>)
         ensures call { IsCancel ⟦<Qcow2<S> as FormatDriverInstance>⟧.view self.old self.new
             mapping }
         ensures untouched { self.new ≡ self.old }

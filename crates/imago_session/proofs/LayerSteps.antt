@@ -6,7 +6,7 @@ use Rattle.std.specs.String.{string_bytes}
 use Rattle.imago_drivers.specs.Place.{Place, Stored, Zeroed, Special, Lower, Refused, End, Value, Byte, shown}
 use Rattle.imago_drivers.specs.Raw.{raw_place}
 use Rattle.imago_drivers.specs.View.{View}
-use Rattle.imago_cow.specs.declared.cow.CowState.{CowState}
+use Rattle.imago_drivers.specs.declared.mapping.Ticket.{Ticket}
 use Rattle.imago_access.specs.declared.access.FormatAccess.{FormatAccess, FormatAccess', Held-FormatAccess-backing, None', Some', is-FormatAccess', out-FormatAccess, back-FormatAccess-backing}
 use Rattle.imago_access.specs.Chain.{driver}
 use Rattle.imago_access.specs.Target.{Target, target, target_below, followed}
@@ -35,7 +35,7 @@ use Rattle.imago_session.specs.Files.{File, Layer, described_by, IsOver, AreLaye
 use Rattle.imago_session.specs.Opening.{source_byte}
 
 -- the view of a layer
-abbrev pub view_of : Layer → View CowState
+abbrev pub view_of : Layer → View Ticket
 view_of = view_over (λ (s : LoadedFile). loaded_features) (λ (s : LoadedFile). 0) loaded_bytes
 
 -- the law of qcow2 files with the same tables

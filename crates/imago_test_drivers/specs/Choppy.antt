@@ -7,6 +7,7 @@ use Rattle.imago_drivers.specs.Operation.{DiscardToAny, DiscardToBacking, Grow, 
 use Rattle.imago_drivers.specs.Raw.{raw_view}
 use Rattle.imago_drivers.specs.RawImage.{storage_in, size_of, writability_of}
 use Rattle.imago_drivers.specs.CallRelations.{OnRange}
+use Rattle.imago_drivers.specs.declared.mapping.Ticket.{Ticket}
 use Rattle.imago_drivers.specs.View.{View}
 
 -- the granularity that is told: 1 for 0
@@ -46,12 +47,12 @@ of_part discard o n old new result = (q : ℕ) × (m : ℕ) × (o ≤ q) × (q +
 
 -- a raw image over storages that show these features, counts of faults and bytes
 abbrev pub raw_over : {S : Type 0} {g : _} {h : _} → (S → Features) → (S → ℕ) → (S → List ℕ)
-    → Raw S g h → View Unit
+    → Raw S g h → View Ticket
 raw_over features fault_count bytes r = raw_view (features (storage_in r))
     (fault_count (storage_in r)) (bytes (storage_in r)) (size_of r) (writability_of r)
 
 -- the same in blocks
 abbrev pub choppy_view : {S : Type 0} {g : _} {h : _} → (S → Features) → (S → ℕ) → (S → List ℕ)
-    → Option ℕ → Raw S g h → View Unit
+    → Option ℕ → Raw S g h → View Ticket
 choppy_view features fault_count bytes granularity r = chopped granularity
     (raw_over features fault_count bytes r)

@@ -1,6 +1,7 @@
 -- SPDX-License-Identifier: MIT
 use Rattle.std.specs.Prelude.{ℕ, false}
 use Rattle.imago_drivers.specs.Laws.{IsLawful, AreCauses}
+use Rattle.imago_drivers.specs.declared.mapping.Ticket.{Ticket}
 use Rattle.imago_drivers.specs.View.{View}
 use Rattle.imago_test_drivers.specs.declared.making.Making.{Making}
 use Rattle.imago_test_drivers.specs.declared.pattern.Kind.{Kind}
@@ -8,7 +9,7 @@ use Rattle.imago_test_drivers.specs.Pattern.{pattern_view}
 use Rattle.imago_test_drivers.specs.PatternLaws.{pattern_lawful, pattern_causes}
 
 -- a disk of that kind which doesn't tell its bytes, nor how many it maps at once
-abbrev pub making_view : Kind → ℕ → View Unit
+abbrev pub making_view : Kind → ℕ → View Ticket
 making_view kind size =
     let v = pattern_view kind size in
     record v {
@@ -39,5 +40,5 @@ making_causes kind size =
     record { part = c.part; part_copied = c.part_copied; bound = c.bound; lends = c.lends }
 
 -- a disk as its callers see it
-abbrev pub view_of : Making → View Unit
+abbrev pub view_of : Making → View Ticket
 view_of d = making_view d.kind d.size

@@ -9,6 +9,7 @@ use Rattle.imago_test_drivers.specs.declared.pattern.Pattern.{Pattern}
 use Rattle.imago_drivers.specs.Operation.{Operation, Read}
 use Rattle.imago_drivers.specs.Place.{Byte, Place, Zeroed, Special, Lower, End, IsIn}
 use Rattle.imago_drivers.specs.Causes.{Causes}
+use Rattle.imago_drivers.specs.declared.mapping.Ticket.{Ticket}
 use Rattle.imago_drivers.specs.View.{View}
 
 -- what each offset of the disk is
@@ -54,7 +55,7 @@ pattern_cause kind size Read o n E.Unsupported = (is_readable kind ≡ false)
     × ((p : ℕ) × IsIn o n p × (p < size))
 pattern_cause kind size _ o n _ = ⊥
 
-abbrev pub pattern_view : Kind → ℕ → View Unit
+abbrev pub pattern_view : Kind → ℕ → View Ticket
 pattern_view kind size = record {
   abilities = record {
     format = Format.Raw;

@@ -6,6 +6,7 @@ use Rattle.imago_drivers.specs.declared.raw.Raw.{Raw}
 use Rattle.imago_drivers.specs.Raw.{raw_view}
 use Rattle.imago_drivers.specs.RawImage.{storage_in, writability_of, size_of as raw_size}
 use Rattle.imago_drivers.specs.RawLaws.{raw_lawful, raw_causes}
+use Rattle.imago_drivers.specs.declared.mapping.Ticket.{Ticket}
 use Rattle.imago_drivers.specs.View.{View}
 use Rattle.imago_test_drivers.specs.Choppy.{choppy_view}
 use Rattle.imago_test_drivers.specs.ChoppyImage.{raw_of, granularity_of}
@@ -20,7 +21,7 @@ use Rattle.imago_test_drivers.specs.declared.test_driver.TestDriver.TheVariants 
 -- the view of the driver that it is, over storages that show these features, counts of faults and
 -- bytes
 abbrev pub test_view : {S : Type 0} {g : _} {h : _} → (S → Features) → (S → ℕ) → (S → List ℕ)
-    → TestDriver S g h → View Unit
+    → TestDriver S g h → View Ticket
 test_view features fault_count bytes (T.Raw r) = raw_view (features (storage_in r))
     (fault_count (storage_in r)) (bytes (storage_in r)) (raw_size r) (writability_of r)
 test_view features fault_count bytes (T.Choppy c) = choppy_view features fault_count bytes

@@ -9,7 +9,7 @@ ghost use Rattle.imago_test_drivers.specs.ChoppyImage.{raw_of, granularity_of};
 ghost use Rattle.imago_test_drivers.specs.ChoppyLaws.{choppy_lawful, choppy_causes};
 
 use imago_drivers::drivers::{
-    Format, FormatDriverInstance, PreallocateMode, PreparedDataMapping, ShallowMapping,
+    Format, FormatDriverInstance, PreallocateMode, PreparedDataMapping, ShallowMapping, Ticket,
 };
 use imago_drivers::layer::LowerLayer;
 use imago_drivers::raw::Raw;
@@ -97,7 +97,7 @@ impl<S: Storage> Display for Choppy<S> {
 impl<S: Storage> FormatDriverInstance for Choppy<S> {
     type Storage = S;
 
-    type State = ();
+    type State = Ticket;
 
     ghost view = { λ d. choppy_view S.features S.fault_count S.bytes (told d.is_granular d.cut)
         d.raw };
@@ -263,7 +263,7 @@ impl<S: Storage> FormatDriverInstance for Choppy<S> {
         offset: u64,
         count: u64,
         overwrite: bool,
-    ) -> Result<PreparedDataMapping<()>, Error> {
+    ) -> Result<PreparedDataMapping<Ticket>, Error> {
         let most = count.min(self.cut.max(1));
         self.raw
             .prepare_data_mapping(alloc, below, offset, most, overwrite)
@@ -272,14 +272,14 @@ impl<S: Storage> FormatDriverInstance for Choppy<S> {
     fn write_prepared(
         &mut self,
         alloc: Global,
-        mapping: &PreparedDataMapping<()>,
+        mapping: &PreparedDataMapping<Ticket>,
         source: &[u8],
         at: u64,
     ) -> Result<(), Error> {
         self.raw.write_prepared(alloc, mapping, source, at)
     }
 
-    fn commit_data_mapping(&mut self, mapping: PreparedDataMapping<()>) -> Result<(), Error>
+    fn commit_data_mapping(&mut self, mapping: PreparedDataMapping<Ticket>) -> Result<(), Error>
         ensures call { IsCommit ⟦<Choppy<S> as FormatDriverInstance>⟧.view self.old self.new mapping
             result }
         ensures performed { ⟦<Choppy<S> as FormatDriverInstance>⟧.calls.committed mapping self.old
@@ -288,7 +288,7 @@ impl<S: Storage> FormatDriverInstance for Choppy<S> {
         self.raw.commit_data_mapping(mapping)
     }
 
-    fn cancel_data_mapping(&mut self, mapping: PreparedDataMapping<()>)
+    fn cancel_data_mapping(&mut self, mapping: PreparedDataMapping<Ticket>)
         ensures call { IsCancel ⟦<Choppy<S> as FormatDriverInstance>⟧.view self.old self.new
             mapping }
         ensures performed { ⟦<Choppy<S> as FormatDriverInstance>⟧.calls.cancelled mapping self.old

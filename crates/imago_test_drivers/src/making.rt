@@ -6,13 +6,12 @@ ghost use Rattle.imago_storage.specs.declared.error.Error.TheVariants.{ForeignMa
 ghost use Rattle.imago_storage.specs.Maintenance.{IsNothing};
 ghost use Rattle.imago_test_drivers.specs.Making.{making_view, making_lawful, making_causes};
 ghost use Rattle.imago_drivers.specs.Commit.{IsCommit, IsCancel};
-ghost use Rattle.imago_drivers.specs.CallRelations.{any_calls, IsNotOffered};
-ghost use Rattle.imago_drivers.specs.RawCalls.{IsRawCommitted};
+ghost use Rattle.imago_drivers.specs.CallRelations.{any_calls, IsNotOffered, IsIdleCommit};
 ghost use Rattle.imago_drivers.specs.Reasons.{none};
 
 use crate::pattern::Kind;
 use imago_drivers::drivers::{
-    Format, FormatDriverInstance, PreallocateMode, PreparedDataMapping, ShallowMapping,
+    Format, FormatDriverInstance, PreallocateMode, PreparedDataMapping, ShallowMapping, Ticket,
 };
 use imago_drivers::layer::LowerLayer;
 use imago_storage::error::Error;
@@ -103,7 +102,7 @@ impl Display for Making {
 impl FormatDriverInstance for Making {
     type Storage = Null;
 
-    type State = ();
+    type State = Ticket;
 
     ghost view = { λ d. making_view d.kind d.size };
 
@@ -117,7 +116,7 @@ impl FormatDriverInstance for Making {
       discarded_to_any = λ o n. IsNotOffered;
       discarded_to_backing = λ o n. IsNotOffered;
       filled = λ m bytes at a b r. (b ≡ a) × (r ≡ Err ForeignMapping);
-      committed = IsRawCommitted;
+      committed = IsIdleCommit;
       by_parts = λ below o n overwrite a b r h. tt;
       cancelled = λ m a b. b ≡ a;
       cut = λ n. IsNotOffered;
@@ -294,7 +293,7 @@ impl FormatDriverInstance for Making {
         _offset: u64,
         _count: u64,
         _overwrite: bool,
-    ) -> Result<PreparedDataMapping<()>, Error>
+    ) -> Result<PreparedDataMapping<Ticket>, Error>
         ensures refused { IsErrOf result Error.Unsupported }
         ensures unchanged { self.new ≡ self.old }
     {
@@ -304,14 +303,14 @@ impl FormatDriverInstance for Making {
     fn write_prepared(
         &mut self,
         _alloc: Global,
-        _mapping: &PreparedDataMapping<()>,
+        _mapping: &PreparedDataMapping<Ticket>,
         _source: &[u8],
         _at: u64,
     ) -> Result<(), Error> {
         Err(Error::ForeignMapping)
     }
 
-    fn commit_data_mapping(&mut self, mapping: PreparedDataMapping<()>) -> Result<(), Error>
+    fn commit_data_mapping(&mut self, mapping: PreparedDataMapping<Ticket>) -> Result<(), Error>
         ensures call { IsCommit ⟦<Making as FormatDriverInstance>⟧.view self.old self.new mapping
             result }
         ensures performed { ⟦<Making as FormatDriverInstance>⟧.calls.committed mapping self.old
@@ -319,11 +318,11 @@ impl FormatDriverInstance for Making {
     {
         match mapping.into_state() {
             None => Ok(()),
-            Some(()) => Err(Error::ForeignMapping),
+            Some(_) => Err(Error::ForeignMapping),
         }
     }
 
-    fn cancel_data_mapping(&mut self, mapping: PreparedDataMapping<()>)
+    fn cancel_data_mapping(&mut self, mapping: PreparedDataMapping<Ticket>)
         ensures call { IsCancel ⟦<Making as FormatDriverInstance>⟧.view self.old self.new mapping }
         ensures performed { ⟦<Making as FormatDriverInstance>⟧.calls.cancelled mapping self.old
             self.new }

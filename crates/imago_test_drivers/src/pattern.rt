@@ -7,12 +7,11 @@ ghost use Rattle.imago_storage.specs.Maintenance.{IsNothing};
 ghost use Rattle.imago_test_drivers.specs.Pattern.{pattern_view, kind_of, size_of};
 ghost use Rattle.imago_test_drivers.specs.PatternLaws.{pattern_lawful, pattern_causes};
 ghost use Rattle.imago_drivers.specs.Commit.{IsCommit, IsCancel};
-ghost use Rattle.imago_drivers.specs.CallRelations.{any_calls, IsNotOffered};
-ghost use Rattle.imago_drivers.specs.RawCalls.{IsRawCommitted};
+ghost use Rattle.imago_drivers.specs.CallRelations.{any_calls, IsNotOffered, IsIdleCommit};
 ghost use Rattle.imago_drivers.specs.Reasons.{none};
 
 use imago_drivers::drivers::{
-    Format, FormatDriverInstance, PreallocateMode, PreparedDataMapping, ShallowMapping,
+    Format, FormatDriverInstance, PreallocateMode, PreparedDataMapping, ShallowMapping, Ticket,
 };
 use imago_drivers::layer::LowerLayer;
 use imago_storage::error::Error;
@@ -66,7 +65,7 @@ impl Display for Pattern {
 impl FormatDriverInstance for Pattern {
     type Storage = Null;
 
-    type State = ();
+    type State = Ticket;
 
     ghost view = { λ d. pattern_view d.kind d.size };
 
@@ -80,7 +79,7 @@ impl FormatDriverInstance for Pattern {
       discarded_to_any = λ o n. IsNotOffered;
       discarded_to_backing = λ o n. IsNotOffered;
       filled = λ m bytes at a b r. (b ≡ a) × (r ≡ Err ForeignMapping);
-      committed = IsRawCommitted;
+      committed = IsIdleCommit;
       by_parts = λ below o n overwrite a b r h. tt;
       cancelled = λ m a b. b ≡ a;
       cut = λ n. IsNotOffered;
@@ -258,7 +257,7 @@ impl FormatDriverInstance for Pattern {
         _offset: u64,
         _count: u64,
         _overwrite: bool,
-    ) -> Result<PreparedDataMapping<()>, Error>
+    ) -> Result<PreparedDataMapping<Ticket>, Error>
         ensures refused { IsErrOf result Error.Unsupported }
         ensures unchanged { self.new ≡ self.old }
     {
@@ -268,14 +267,14 @@ impl FormatDriverInstance for Pattern {
     fn write_prepared(
         &mut self,
         _alloc: Global,
-        _mapping: &PreparedDataMapping<()>,
+        _mapping: &PreparedDataMapping<Ticket>,
         _source: &[u8],
         _at: u64,
     ) -> Result<(), Error> {
         Err(Error::ForeignMapping)
     }
 
-    fn commit_data_mapping(&mut self, mapping: PreparedDataMapping<()>) -> Result<(), Error>
+    fn commit_data_mapping(&mut self, mapping: PreparedDataMapping<Ticket>) -> Result<(), Error>
         ensures call { IsCommit ⟦<Pattern as FormatDriverInstance>⟧.view self.old self.new mapping
             result }
         ensures performed { ⟦<Pattern as FormatDriverInstance>⟧.calls.committed mapping self.old
@@ -283,11 +282,11 @@ impl FormatDriverInstance for Pattern {
     {
         match mapping.into_state() {
             None => Ok(()),
-            Some(()) => Err(Error::ForeignMapping),
+            Some(_) => Err(Error::ForeignMapping),
         }
     }
 
-    fn cancel_data_mapping(&mut self, mapping: PreparedDataMapping<()>)
+    fn cancel_data_mapping(&mut self, mapping: PreparedDataMapping<Ticket>)
         ensures call { IsCancel ⟦<Pattern as FormatDriverInstance>⟧.view self.old self.new mapping }
         ensures performed { ⟦<Pattern as FormatDriverInstance>⟧.calls.cancelled mapping self.old
             self.new }

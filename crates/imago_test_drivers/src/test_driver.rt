@@ -8,7 +8,7 @@ ghost use Rattle.imago_test_drivers.specs.TestDriver.{by_driver};
 use crate::choppy::Choppy;
 use crate::pattern::Pattern;
 use imago_drivers::drivers::{
-    Format, FormatDriverInstance, PreallocateMode, PreparedDataMapping, ShallowMapping,
+    Format, FormatDriverInstance, PreallocateMode, PreparedDataMapping, ShallowMapping, Ticket,
 };
 use imago_drivers::layer::LowerLayer;
 use imago_drivers::raw::Raw;
@@ -48,7 +48,7 @@ impl<S: Storage> Display for TestDriver<S> {
 impl<S: Storage> FormatDriverInstance for TestDriver<S> {
     type Storage = S;
 
-    type State = ();
+    type State = Ticket;
 
     ghost view = { λ d. test_view S.features S.fault_count S.bytes d };
 
@@ -203,7 +203,7 @@ impl<S: Storage> FormatDriverInstance for TestDriver<S> {
         offset: u64,
         count: u64,
         overwrite: bool,
-    ) -> Result<PreparedDataMapping<()>, Error> {
+    ) -> Result<PreparedDataMapping<Ticket>, Error> {
         dispatch!(self, driver => driver.prepare_data_mapping(alloc, below, offset, count,
             overwrite))
     }
@@ -211,14 +211,14 @@ impl<S: Storage> FormatDriverInstance for TestDriver<S> {
     fn write_prepared(
         &mut self,
         alloc: Global,
-        mapping: &PreparedDataMapping<()>,
+        mapping: &PreparedDataMapping<Ticket>,
         source: &[u8],
         at: u64,
     ) -> Result<(), Error> {
         dispatch!(self, driver => driver.write_prepared(alloc, mapping, source, at))
     }
 
-    fn commit_data_mapping(&mut self, mapping: PreparedDataMapping<()>) -> Result<(), Error>
+    fn commit_data_mapping(&mut self, mapping: PreparedDataMapping<Ticket>) -> Result<(), Error>
         ensures call { IsCommit ⟦<TestDriver<S> as FormatDriverInstance>⟧.view self.old self.new
             mapping result }
         ensures performed { ⟦<TestDriver<S> as FormatDriverInstance>⟧.calls.committed mapping
@@ -227,7 +227,7 @@ impl<S: Storage> FormatDriverInstance for TestDriver<S> {
         dispatch!(self, driver => driver.commit_data_mapping(mapping))
     }
 
-    fn cancel_data_mapping(&mut self, mapping: PreparedDataMapping<()>)
+    fn cancel_data_mapping(&mut self, mapping: PreparedDataMapping<Ticket>)
         ensures call { IsCancel ⟦<TestDriver<S> as FormatDriverInstance>⟧.view self.old self.new
             mapping }
         ensures performed { ⟦<TestDriver<S> as FormatDriverInstance>⟧.calls.cancelled mapping

@@ -7,13 +7,11 @@
 ghost use Rattle.std.specs.Prelude.{◌≡◌, None};
 ghost use Rattle.imago.specs.Chain.{driver};
 
-use imago::images::{OpenError, Opening, PathFile, PathStorage};
+use imago::disk::{Disk, SystemFiles};
+use imago::images::{OpenError, Opening, PathFile, PathStorage, storage_of};
 use imago::run::{Call, Reply, run};
 use imago::{FormatAccess, FormatDriverInstance, Storage, error};
-use imago_disk::disk::Disk;
-use imago_disk::system::SystemFiles;
 use imago_examples::files::{Image, copy_on_write, write_and_read};
-use imago_images::file::storage_of;
 use std::fs::File;
 use std::process::ExitCode;
 

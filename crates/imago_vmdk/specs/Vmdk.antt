@@ -9,6 +9,7 @@ use Rattle.imago_storage.specs.Features.{Features, MayRunOut, IsAlignedRequest}
 use Rattle.imago_storage.specs.Padding.{Wraps}
 use Rattle.imago_storage.specs.Mem.{null_features}
 use Rattle.imago_drivers.specs.declared.format.Format.TheVariants as Format
+use Rattle.imago_drivers.specs.declared.mapping.Ticket.{Ticket}
 use Rattle.imago_drivers.specs.Operation.{Operation, Map, Read, Write, Zero, DiscardToZero}
 use Rattle.imago_drivers.specs.Operation.{DiscardToAny, DiscardToBacking, Grow, Shrink, Flush}
 use Rattle.imago_drivers.specs.Place.{Value, Place, Byte, Stored, Zeroed, Special, Refused, End}
@@ -149,7 +150,7 @@ all_tell (f ∷ fs) = f.tells_bytes && all_tell fs
 -- An image of these extents, over its own storage and then, once they are opened, those of the
 -- extents. It can't be written to, so its data is kept where it is told.
 abbrev pub vmdk_view : {N : Type 0} → List Features → List (List ℕ) → Bool → List (Extent N)
-    → View Unit
+    → View Ticket
 vmdk_view features bytes opened extents = record {
   abilities = record {
     format = Format.Vmdk;

@@ -30,7 +30,7 @@ use crate::descriptor::{self, Descriptor, is_length};
 use crate::line::{Accepted, Extent, SECTOR_SIZE};
 pub use crate::vmdk_builder::VmdkOpenBuilder;
 use imago_drivers::drivers::{
-    Format, FormatDriverInstance, PreallocateMode, PreparedDataMapping, ShallowMapping,
+    Format, FormatDriverInstance, PreallocateMode, PreparedDataMapping, ShallowMapping, Ticket,
 };
 use imago_drivers::gate::ImplicitOpenGate;
 use imago_drivers::layer::LowerLayer;
@@ -458,7 +458,7 @@ impl<S: Storage> Display for Vmdk<S> {
 impl<S: Storage> FormatDriverInstance for Vmdk<S> {
     type Storage = S;
 
-    type State = ();
+    type State = Ticket;
 
     ghost view = { λ v. vmdk_view (S.features v.descriptor ∷ map S.features v.storages.items)
         (S.bytes v.descriptor ∷ map S.bytes v.storages.items) v.opened v.extents.items };
@@ -627,7 +627,7 @@ impl<S: Storage> FormatDriverInstance for Vmdk<S> {
         _offset: u64,
         _count: u64,
         _overwrite: bool,
-    ) -> Result<PreparedDataMapping<()>, Error>
+    ) -> Result<PreparedDataMapping<Ticket>, Error>
         ensures unsupported { IsErrOf result Error.Unsupported }
         ensures untouched { self.new ≡ self.old }
     {
@@ -637,14 +637,14 @@ impl<S: Storage> FormatDriverInstance for Vmdk<S> {
     fn write_prepared(
         &mut self,
         _alloc: Global,
-        _mapping: &PreparedDataMapping<()>,
+        _mapping: &PreparedDataMapping<Ticket>,
         _source: &[u8],
         _at: u64,
     ) -> Result<(), Error> {
         Err(Error::ForeignMapping)
     }
 
-    fn commit_data_mapping(&mut self, mapping: PreparedDataMapping<()>) -> Result<(), Error>
+    fn commit_data_mapping(&mut self, mapping: PreparedDataMapping<Ticket>) -> Result<(), Error>
         ensures call { IsCommit ⟦<Vmdk<S> as FormatDriverInstance>⟧.view self.old self.new mapping
             result }
         ensures untouched { self.new ≡ self.old }
@@ -653,11 +653,11 @@ impl<S: Storage> FormatDriverInstance for Vmdk<S> {
     {
         match mapping.into_state() {
             None => Ok(()),
-            Some(()) => Err(Error::ForeignMapping),
+            Some(_) => Err(Error::ForeignMapping),
         }
     }
 
-    fn cancel_data_mapping(&mut self, mapping: PreparedDataMapping<()>)
+    fn cancel_data_mapping(&mut self, mapping: PreparedDataMapping<Ticket>)
         ensures call { IsCancel ⟦<Vmdk<S> as FormatDriverInstance>⟧.view self.old self.new mapping }
         ensures untouched { self.new ≡ self.old }
         ensures performed { ⟦<Vmdk<S> as FormatDriverInstance>⟧.calls.cancelled mapping self.old

@@ -90,6 +90,9 @@ fn image_of(rt: &impl Abort, alloc: Global, disk: Disk) -> Result<Image<MemStora
 
 const TEXT: &[u8] = b"some text";
 
+/// A block of bytes.
+const BLOCK: &[u8] = &[b'x'; 512];
+
 /// A run as a row has it: where it begins, and how many bytes it has; unless these are zero, also
 /// the layer whose first storage has them, and the offset there.
 type Row = (u64, u64, Option<(usize, u64)>);
@@ -155,7 +158,7 @@ fn disks_are_made_of_runs(rt: HostRuntime) -> Result<(), Fail> {
 
 /// Disks, the length of the buffer that each is copied by, the calls on the target, and some of the
 /// bytes that it has then, at their offset.
-static COPIES: [(Disk, usize, &[Put], (usize, &[u8])); 7] = [
+static COPIES: [(Disk, usize, &[Put], (usize, &[u8])); 10] = [
     (Disk::Raw(b""), 4, &[], (0, b"")),
     // A buffer is needed only where there is something to read.
     (Disk::Raw(b""), 0, &[], (0, b"")),
@@ -169,6 +172,31 @@ static COPIES: [(Disk, usize, &[Put], (usize, &[u8])); 7] = [
         Disk::Cow(TEXT, b"new", 600),
         512,
         &[Put::Bytes(9), Put::Zeroes(503), Put::Bytes(512)],
+        (598, b"\0\0new\0"),
+    ),
+    // Runs that follow one another are put in together, as long as the buffer has room for them.
+    (
+        Disk::Cow(BLOCK, b"new", 600),
+        1024,
+        &[Put::Bytes(1024)],
+        (511, b"x\0"),
+    ),
+    (
+        Disk::Cow(BLOCK, b"new", 600),
+        1023,
+        &[Put::Bytes(512), Put::Bytes(512)],
+        (598, b"\0\0new\0"),
+    ),
+    // The second one is longer than the buffer, and begins at its start.
+    (
+        Disk::Cow(BLOCK, b"new", 600),
+        500,
+        &[
+            Put::Bytes(500),
+            Put::Bytes(12),
+            Put::Bytes(500),
+            Put::Bytes(12),
+        ],
         (598, b"\0\0new\0"),
     ),
     // The file's end is the end of a part,

@@ -1,9 +1,9 @@
 -- SPDX-License-Identifier: MIT
-use Rattle.std.proofs.Common.{◌≡◌, ◌-◌, IsTrue}
+use Rattle.std.proofs.Common.{◌≡◌, ◌-◌, ◌≤◌, IsTrue, length}
 use Rattle.imago_access.specs.Chain.{driver, disk_value, tells_bytes}
 use Rattle.imago_access.specs.ReaderOf.{image_of as read_by, IsKeeping}
 use Rattle.imago_copy.specs.RunsOf.{image_of, at_of, IsReady}
-use Rattle.imago_copy.specs.Copies.{IsPut}
+use Rattle.imago_copy.specs.Copies.{IsGathered}
 use Rattle.imago_copy.proofs.copy.copy_disk.Given as goal
 
 abbrev pub invariant-loop-reader : goal.invariant-loop-reader
@@ -15,7 +15,8 @@ invariant-loop-reader g l =
       keeping : IsKeeping view l.reader;
       same : g.T.Target.made_for l.target ≡ g.T.Target.made_for l.initial.target;
       ready : IsReady view l.runs;
-      put : IsTrue (tells_bytes view l.image) → IsPut (disk_value view l.image) 0 (at_of l.runs) (g.T.Target.contents l.initial.target) (g.T.Target.contents l.target);
+      fits : l.held ≤ length l.buf;
+      put : IsTrue (tells_bytes view l.image) → IsGathered (disk_value view l.image) (at_of l.runs) (g.T.Target.contents l.initial.target) (g.T.Target.contents l.target) l.buf l.held;
     }
 
 abbrev pub decreases-loop-reader : goal.decreases-loop-reader

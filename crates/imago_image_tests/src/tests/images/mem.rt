@@ -8,7 +8,7 @@ use super::runs::{by_run, run_raw};
 use super::set_up::{in_blocks, printed, stored, storing};
 use imago_access::access::FormatAccess;
 use imago_access::mapping::Mapping;
-use imago_drivers::drivers::{FormatDriverInstance, PreallocateMode, PreparedDataMapping};
+use imago_drivers::drivers::{FormatDriverInstance, PreallocateMode, PreparedDataMapping, Ticket};
 use imago_drivers::layer::LowerLayer;
 use imago_drivers::raw::Raw;
 use imago_storage::error::Error;
@@ -245,14 +245,19 @@ static STRANGERS: [(Call, Answer); 3] = [
 ];
 
 /// Commits a mapping with a state that wasn't prepared, which is refused. Nothing has changed then.
-fn commit_stranger<D: FormatDriverInstance<State = ()>>(
+fn commit_stranger<D: FormatDriverInstance<State = Ticket>>(
     rt: &impl Abort,
     alloc: Global,
     driver: D,
     calls: &[(Call, Answer)],
 ) {
     let mut image = alone(driver);
-    let refused = image.commit_data_mapping(PreparedDataMapping::to_commit(0, 0, 4, ()));
+    let refused = image.commit_data_mapping(PreparedDataMapping::to_commit(
+        0,
+        0,
+        4,
+        Ticket::new(1),
+    ));
     assert_eq!(rt; refused, Err(Error::ForeignMapping));
     script(rt, alloc, &mut image, calls);
 }

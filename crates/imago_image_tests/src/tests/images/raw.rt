@@ -3,7 +3,7 @@
 use super::answer::Answer;
 use super::driver::{Call, Give, on_raw};
 use super::set_up::{runs, stored, storing};
-use imago_drivers::drivers::{FormatDriverInstance, PreallocateMode, PreparedDataMapping};
+use imago_drivers::drivers::{FormatDriverInstance, PreallocateMode, PreparedDataMapping, Ticket};
 use imago_drivers::layer::LowerLayer;
 use imago_drivers::raw::Raw;
 use imago_storage::error::Error;
@@ -396,7 +396,7 @@ static READ_ONLY: [(Call, Answer); 3] = [
 /// Commits a mapping with a state that wasn't prepared, which is refused. Answers the storage.
 fn commit_stranger<S: Storage>(rt: &impl Abort, storage: S) -> S {
     let mut raw = Raw::open_image(storage, true).expect(rt, "a raw image");
-    let refused = raw.commit_data_mapping(PreparedDataMapping::to_commit(0, 0, 4, ()));
+    let refused = raw.commit_data_mapping(PreparedDataMapping::to_commit(0, 0, 4, Ticket::new(1)));
     assert_eq!(rt; refused, Err(Error::ForeignMapping));
     raw.into_inner()
 }

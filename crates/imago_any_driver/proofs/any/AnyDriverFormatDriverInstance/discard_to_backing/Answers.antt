@@ -1,9 +1,8 @@
 -- SPDX-License-Identifier: MIT
-use Rattle.imago_any_driver.proofs.Restated.{discard_restated}
 use Rattle.imago_any_driver.proofs.any.AnyDriverFormatDriverInstance.discard_to_backing.Goals as goal
 
 pub returns-in-Raw-clause-call : goal.returns-in-Raw-clause-call
-returns-in-Raw-clause-call g c = rw c.in-Raw.is (discard_restated _ _ _ _ _ _ _ c.discard_to_backing.ensures.call)
+returns-in-Raw-clause-call g c = rw c.in-Raw.is c.discard_to_backing.ensures.call
 
 pub returns-in-Raw-clause-performed : goal.returns-in-Raw-clause-performed
 returns-in-Raw-clause-performed g c = rw c.in-Raw.is c.discard_to_backing.ensures.performed

@@ -1,9 +1,8 @@
 -- SPDX-License-Identifier: MIT
-use Rattle.imago_any_driver.proofs.Restated.{zero_call_restated}
 use Rattle.imago_any_driver.proofs.any.AnyDriverFormatDriverInstance.ensure_zero_mapping.Goals as goal
 
-pub returns-in-Raw : goal.returns-in-Raw
-returns-in-Raw g c = rw c.in-Raw.is (record { call = zero_call_restated _ _ _ _ _ _ c.ensure_zero_mapping.ensures.call; performed = c.ensure_zero_mapping.ensures.performed })
+pub returns-in-Raw-clause-call : goal.returns-in-Raw-clause-call
+returns-in-Raw-clause-call g c = rw c.in-Raw.is c.ensure_zero_mapping.ensures.call
 
-pub returns-in-Cow : goal.returns-in-Cow
-returns-in-Cow g c = rw c.in-Cow.is (record { call = c.ensure_zero_mapping-in-Cow.ensures.call; performed = c.ensure_zero_mapping-in-Cow.ensures.performed })
+pub returns-in-Cow-clause-call : goal.returns-in-Cow-clause-call
+returns-in-Cow-clause-call g c = rw c.in-Cow.is c.ensure_zero_mapping-in-Cow.ensures.call

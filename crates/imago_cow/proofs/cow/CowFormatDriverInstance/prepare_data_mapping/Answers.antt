@@ -3,15 +3,15 @@ use Rattle.std.proofs.Common.{◌≡◌, ◌+◌, ◌*◌, ◌%◌, ◌<◌, Som
 use Rattle.std.proofs.lemmas.Result.{err_from_is_err_and}
 use Rattle.imago_storage.specs.declared.error.Error.{Error}
 use Rattle.imago_drivers.specs.declared.mapping.PreparedDataMapping.{PreparedDataMapping}
+use Rattle.imago_drivers.specs.declared.mapping.Ticket.{Ticket}
 use Rattle.imago_cow.specs.declared.cow.Waiting.{Waiting}
-use Rattle.imago_cow.specs.declared.cow.CowState.{CowState}
 use Rattle.imago_drivers.specs.LayerBelow.{lent}
+use Rattle.imago_drivers.specs.Parts.{number_of}
 use Rattle.imago_cow.specs.TableView.{entries_of, count_of}
 use Rattle.imago_cow.specs.TableLaws.{named_below}
 use Rattle.imago_cow.specs.GuestLaws.{rest_small}
 use Rattle.imago_cow.specs.Cow.{cow_view}
 use Rattle.imago_cow.specs.CowLaws.{cow_causes}
-use Rattle.imago_cow.specs.CowImage.{ticket_of}
 use Rattle.imago_cow.proofs.MapSteps.{number_ends}
 use Rattle.imago_cow.proofs.PrepareSteps.{counts_as}
 use Rattle.imago_cow.proofs.DriverSteps.{none_waits}
@@ -91,7 +91,7 @@ returns-in_err-waiting g c =
         refused = refl;
         causes = tt;
         lengths = record { no_shorter = λ i. e.call.no_shorter; no_longer = λ i. e.no_longer c.args.count some };
-        faults = counts_as {T = Waiting} {U = PreparedDataMapping CowState} _ _ _ c.prepare_part.result (Err (c.in_err-waiting.field-0.0)) (λ x. let y : c.in_err-waiting.field-0.0 ≡ Error.Device = cc in c.in_err-waiting.was ∙ ap (λ z. Err z) y) e.call.faults;
+        faults = counts_as {T = Waiting} {U = PreparedDataMapping Ticket} _ _ _ c.prepare_part.result (Err (c.in_err-waiting.field-0.0)) (λ x. let y : c.in_err-waiting.field-0.0 ≡ Error.Device = cc in c.in_err-waiting.was ∙ ap (λ z. Err z) y) e.call.faults;
         refusals = c.in_err-waiting.ensures.refusals n c.args.count some;
       });
       entries = e.table.entries;
@@ -139,7 +139,7 @@ returns g c =
         stands = m.offset ∙ k.waits.apart.offset ∙ ap (λ o. w.number * s.block.length + o % s.block.length) k.waits.start;
       };
       in_data = λ j h. absurd (not_in_data _ _ j c.entry_at-entry.ensures c.in_default.not-Data h);
-      performed = (copied_for g.S.Storage.features g.S.Storage.bytes g.S.Storage.fault_count g.S.Storage.work g.S.Storage.maintenance (lent g.B.LowerLayer.as_layer_below c.args.below) c.args.overwrite (entries_of s.table) (count_of s.table) s.block.length s.size c.args.offset c.args.count c.kind_of.result c.min-run.result s.storage t.storage (Ok tt) (c.entry_at-entry.ensures ∙ ap (λ x. Some x) (c.kind_of.ensures c.in_default.not-Data)) some (rw c.rest-rest.ensures.value at c.min-run.ensures) k.copies, refl, refl, e.table.entries, tt, rw m.state (refl, ap ticket_of k.waits.state));
+      performed = (copied_for g.S.Storage.features g.S.Storage.bytes g.S.Storage.fault_count g.S.Storage.work g.S.Storage.maintenance (lent g.B.LowerLayer.as_layer_below c.args.below) c.args.overwrite (entries_of s.table) (count_of s.table) s.block.length s.size c.args.offset c.args.count c.kind_of.result c.min-run.result s.storage t.storage (Ok tt) (c.entry_at-entry.ensures ∙ ap (λ x. Some x) (c.kind_of.ensures c.in_default.not-Data)) some (rw c.rest-rest.ensures.value at c.min-run.ensures) k.copies, refl, refl, e.table.entries, tt, rw m.state (refl, ap number_of k.waits.state ∙ c.new-state.ensures));
       by_name = tt;
       over = λ o. tt;
     }

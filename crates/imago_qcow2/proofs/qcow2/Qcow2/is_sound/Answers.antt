@@ -1,43 +1,52 @@
 -- SPDX-License-Identifier: MIT
-use Rattle.std.proofs.Common.{◌≡◌, ◌+◌, ◌-◌, ◌/◌, ◌<◌, ◌≤◌, ⊎_elim, true, false, ℕ, sym, ap, ◌∙◌, subst, arith}
-use Rattle.std.proofs.lemmas.Bool.{cases_lt, false≢true}
-use Rattle.imago_qcow2.specs.declared.entry.GuestCluster.{GuestCluster}
-use Rattle.imago_qcow2.specs.declared.header.Header.{Header}
-use Rattle.imago_qcow2.specs.Qcow2Image.{header_in, loaded_in}
-use Rattle.imago_qcow2.specs.Sound.{IsSound}
-use Rattle.imago_qcow2.specs.Tables.{loaded_cluster}
+use Rattle.std.proofs.Common.{◌≡◌, ◌+◌, ◌-◌, ◌*◌, ◌/◌, ◌<◌, ◌≤◌, length, ℕ, ⊎_elim, subst, arith}
+use Rattle.std.specs.Int.{div_ceil}
+use Rattle.std.proofs.lemmas.Bool.{cases_lt}
+use Rattle.imago_qcow2.specs.Sound.{IsSoundAt}
+use Rattle.imago_qcow2.specs.Tables.{loaded_of}
+use Rattle.imago_qcow2.proofs.HeldSteps.{enough}
+use Rattle.imago_qcow2.proofs.SoundSteps.{offset_within, begin_within, begin_is}
 use Rattle.imago_qcow2.proofs.qcow2.Qcow2.is_sound.Goals as goal
 
-pub returns-then-not-is_sound-clause-unsound : goal.returns-then-not-is_sound-clause-unsound
-returns-then-not-is_sound-clause-unsound g c = λ is.
+pub sound_from-count-requires-clause-total : goal.sound_from-count-requires-clause-total
+sound_from-count-requires-clause-total g c =
     let s = c.args.self.now in
-    let o : ℕ = c.loop-offset.offset in
-    let header = c.header-header.ensures.header in
-    let inside : o < (header_in s).size = subst (λ (h : Header). o < h.size) header c.loop-offset-test.true in
-    let here : o + 0 ≡ o = omega arith in
-    let same : loaded_cluster (loaded_in s) (o / s.cluster.length) ≡ c.run_at-cluster.result.0 =
-    subst (λ (p : ℕ). loaded_cluster (loaded_in s) (p / s.cluster.length) ≡ c.run_at-cluster.result.0) here (c.run_at-cluster.ensures.same 0 c.run_at-cluster.ensures.some) in (
-      o,
-      inside,
-      λ sound.
-          let told = subst (λ (h : Header). IsSound h.compression c.args.file c.run_at-cluster.result.0) (sym header) (subst (IsSound (header_in s).compression c.args.file) same sound) in
-          false≢true (sym c.if-not-is_sound.true ∙ c.is_sound.ensures.1 told),
+    let positive : 0 < s.cluster.length = omega (arith, s.cluster.shortest) in
+    let covers : s.header.size ≤ length s.tables.l1.items * (s.cluster.length / 8) * s.cluster.length = omega (arith, s.covers) in
+    let is : c.div_ceil-total.result ≡ div_ceil s.header.size s.cluster.length = c.div_ceil-total.ensures in
+    rw is (enough s.header.size (length s.tables.l1.items * (s.cluster.length / 8)) s.cluster.length positive covers)
+
+pub returns-then-count-eq0-clause-unsound : goal.returns-then-count-eq0-clause-unsound
+returns-then-count-eq0-clause-unsound g c = λ no.
+    let s = c.args.self.now in
+    let loaded = loaded_of s.header s.cluster.length s.tables in
+    let positive : 0 < s.cluster.length = omega (arith, s.cluster.shortest) in
+    let is : c.div_ceil-total.result ≡ div_ceil s.header.size s.cluster.length = c.div_ceil-total.ensures in
+    let found = c.sound_from-count.ensures.unsound c.if-count-eq0.true in
+    let k = found.0 in
+    let inside : k < div_ceil s.header.size s.cluster.length = rw is at found.1 in (
+      k * s.cluster.length,
+      begin_within s.header.size s.cluster.length k positive inside,
+      λ sound. found.2 (subst (IsSoundAt loaded c.args.file) (begin_is s.cluster.length k positive) sound),
     )
 
-pub loop-offset-preserved : goal.loop-offset-preserved
-loop-offset-preserved g c =
+pub loop-guest-preserved : goal.loop-guest-preserved
+loop-guest-preserved g c = λ k h.
     let s = c.args.self.now in
-    let l = c.loop-offset in
-    let compression = c.header-header.result.compression in
-    record {
-      header = l.invariant.header;
-      sound = λ o lt inside. ⊎_elim
-          (λ (below : o < l.offset). l.invariant.sound o below inside)
-          (λ (above : l.offset ≤ o).
-          let i : ℕ = o - l.offset in
-          let within : i < c.run_at-cluster.result.1 = omega (arith, lt, above, c.saturating_add-offset.ensures) in
-          let there : l.offset + i ≡ o = omega (arith, above) in
-          let same = subst (λ (p : ℕ). loaded_cluster (loaded_in s) (p / s.cluster.length) ≡ c.run_at-cluster.result.0) there (c.run_at-cluster.ensures.same i within) in
-          subst (IsSound compression c.args.file) (sym same) (c.is_sound.ensures.0 c.if-not-is_sound.false))
-          (cases_lt o l.offset);
-    }
+    let loaded = loaded_of s.header s.cluster.length s.tables in
+    let guest : ℕ = c.loop-guest.guest in
+    ⊎_elim {C = IsSoundAt loaded c.args.file k}
+    (λ (below : k < guest). c.loop-guest.invariant k below)
+    (λ (above : guest ≤ k).
+    let there : guest + (k - guest) ≡ k = omega (arith, above) in
+    let near : k - guest < c.sound_from-count.result = omega (arith, h, above, c.saturating_add-guest.ensures) in
+    subst (IsSoundAt loaded c.args.file) there (c.sound_from-count.ensures.sound (k - guest) near))
+    (cases_lt k guest)
+
+pub returns-clause-sound : goal.returns-clause-sound
+returns-clause-sound g c = λ all offset inside.
+    let s = c.args.self.now in
+    let positive : 0 < s.cluster.length = omega (arith, s.cluster.shortest) in
+    let is : c.div_ceil-total.result ≡ div_ceil s.header.size s.cluster.length = c.div_ceil-total.ensures in
+    let within : offset / s.cluster.length < div_ceil s.header.size s.cluster.length = offset_within s.header.size s.cluster.length offset positive inside in
+    c.loop-guest.invariant (offset / s.cluster.length) (omega (arith, within, is, c.loop-guest-test.false))

@@ -1,20 +1,12 @@
 -- SPDX-License-Identifier: MIT
-use Rattle.std.proofs.Common.{◌+◌, inr, arith}
+use Rattle.std.proofs.Common.{subst}
+use Rattle.imago_drivers.specs.declared.mapping.ShallowMapping.{ShallowMapping}
+use Rattle.imago_qcow2.specs.Qcow2.{NamesFirst}
 use Rattle.imago_qcow2.specs.Tables.{loaded_of, loaded_place}
-use Rattle.imago_qcow2.proofs.MapSteps.{names_more, names_first}
 use Rattle.imago_qcow2.proofs.qcow2.Qcow2.longest.Goals as goal
 
-pub returns-then-not-goes_on-clause-ends : goal.returns-then-not-goes_on-clause-ends
-returns-then-not-goes_on-clause-ends g c =
-    let place = loaded_place (g.S.Storage.features c.args.self.now.storage) (loaded_of c.args.self.now.header c.args.self.now.cluster.length c.args.self.now.tables) (g.S.Storage.bytes c.args.self.now.storage) in
-    let o = c.args.offset + c.loop-count.count in
-    inr (λ named. c.goes_on.ensures.no c.if-not-goes_on.true (place o) (names_first place o c.in-Ok.more c.in-Ok.next c.in-Ok.ensures.some c.in-Ok.ensures.names) named)
-
-pub loop-count-preserved : goal.loop-count-preserved
-loop-count-preserved g c =
-    let place = loaded_place (g.S.Storage.features c.args.self.now.storage) (loaded_of c.args.self.now.header c.args.self.now.cluster.length c.args.self.now.tables) (g.S.Storage.bytes c.args.self.now.storage) in
-    let l = c.loop-count in
-    record {
-      names = names_more place c.args.offset l.count c.in-Ok.more c.args.mapping c.in-Ok.next l.invariant.names c.in-Ok.ensures.names (c.goes_on.ensures.yes c.if-not-goes_on.false);
-      fits = let x = c.in-Ok.ensures.inside in omega (arith, x);
-    }
+pub longest_stored-requires-clause-names : goal.longest_stored-requires-clause-names
+longest_stored-requires-clause-names g c =
+    let s = c.args.self.now in
+    let place = loaded_place (g.S.Storage.features s.storage) (loaded_of s.header s.cluster.length s.tables) (g.S.Storage.bytes s.storage) in
+    subst (λ (m : ShallowMapping). NamesFirst place c.args.offset m c.args.known) (c.in-Some.ensures.0) c.requires.names

@@ -2,7 +2,7 @@
 use Rattle.std.proofs.Common.{◌-◌, ℕ, ◌+◌, ◌<◌, ◌≤◌}
 use Rattle.imago_drivers.specs.Mapping.{Names}
 use Rattle.imago_qcow2.specs.Tables.{loaded_of, loaded_place}
-use Rattle.imago_qcow2.proofs.qcow2.Qcow2.longest.Given as goal
+use Rattle.imago_qcow2.proofs.qcow2.Qcow2.longest_of_any.Given as goal
 
 abbrev pub invariant-loop-count : goal.invariant-loop-count
 invariant-loop-count g l = record {
