@@ -1,6 +1,7 @@
 // SPDX-License-Identifier: MIT
 //! How often a host in memory is asked for each path.
 
+#[cfg(test)]
 use std::alloc::{AllocError, Global};
 use std::cell::Cell;
 
@@ -24,6 +25,7 @@ struct Count {
     writes: Cell<u64>,
 }
 
+#[cfg(test)]
 impl Count {
     /// The counter of a call.
     fn of(&self, call: Call) -> &Cell<u64> {
@@ -42,6 +44,7 @@ pub struct Asked {
     others: Cell<u64>,
 }
 
+#[cfg(test)]
 impl Asked {
     /// No path is followed.
     pub fn new(alloc: Global) -> Self {
@@ -98,11 +101,13 @@ impl Asked {
 }
 
 /// Counts one more.
+#[cfg(test)]
 fn add_one(counter: &Cell<u64>) {
     counter.set(counter.get().saturating_add(1));
 }
 
 /// Whether a path is one of these.
+#[cfg(test)]
 fn is_among(path: &str, paths: &[&str]) -> bool {
     for one in paths {
         if *one == path {

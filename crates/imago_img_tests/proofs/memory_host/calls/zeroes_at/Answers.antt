@@ -1,6 +1,6 @@
 -- SPDX-License-Identifier: MIT
 use Rattle.imago_img_tests.proofs.Zeroes.{zeroes, zeroes_to_end}
-use Rattle.imago_img_tests.proofs.memory_host.zeroes_at.Goals as goal
+use Rattle.imago_img_tests.proofs.memory_host.calls.zeroes_at.Goals as goal
 
 pub returns-in-Some-clause-zero : goal.returns-in-Some-clause-zero
 returns-in-Some-clause-zero c =

@@ -1,6 +1,6 @@
 -- SPDX-License-Identifier: MIT
 use Rattle.std.proofs.Common.{◌≡◌, ℕ, ◌+◌, ◌-◌, ◌<◌, ◌≤◌, slice_index}
-use Rattle.imago_img_tests.proofs.memory_host.zeroes_at.Given as goal
+use Rattle.imago_img_tests.proofs.memory_host.calls.zeroes_at.Given as goal
 
 abbrev pub invariant-loop-count : goal.invariant-loop-count
 invariant-loop-count l = record {

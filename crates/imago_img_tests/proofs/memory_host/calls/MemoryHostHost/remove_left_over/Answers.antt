@@ -1,7 +1,7 @@
 -- SPDX-License-Identifier: MIT
 use Rattle.std.proofs.Common.{◌∙◌}
 use Rattle.imago_img_tests.proofs.LeftOver.{left_gone}
-use Rattle.imago_img_tests.proofs.memory_host.MemoryHostHost.remove_left_over.Goals as goal
+use Rattle.imago_img_tests.proofs.memory_host.calls.MemoryHostHost.remove_left_over.Goals as goal
 
 pub returns-clause-gone : goal.returns-clause-gone
 returns-clause-gone c =
