@@ -71,9 +71,14 @@ fn file_of(alloc: Global, parts: &[Part]) -> Result<MemStorage, Error> {
     Ok(MemStorage::new(file))
 }
 
+/// The image in a file.
+fn image_in<S: Storage>(alloc: Global, file: S) -> Result<Qcow2<S>, Error> {
+    Qcow2::open_image(alloc, file, false)
+}
+
 /// The image in such a file.
 fn opened(alloc: Global, parts: &[Part]) -> Result<Qcow2<MemStorage>, Error> {
-    Qcow2::open_image(alloc, file_of(alloc, parts)?, false)
+    image_in(alloc, file_of(alloc, parts)?)
 }
 
 /// A read: its offset, how many bytes, and what these are, again and again.
@@ -118,12 +123,22 @@ fn gives<S: Storage>(
     Ok(())
 }
 
-fn check_reads(rt: &impl Abort, alloc: Global) -> Result<(), Error> {
-    let image = FormatAccess::new(opened(alloc, &DEFLATED)?);
-    for &read in &READS {
+/// An image gives that at each of these reads.
+fn gives_all<S: Storage>(
+    rt: &impl Abort,
+    alloc: Global,
+    image: Qcow2<S>,
+    reads: &[Read],
+) -> Result<(), Error> {
+    let image = FormatAccess::new(image);
+    for &read in reads {
         gives(rt, alloc, &image, read)?;
     }
     Ok(())
+}
+
+fn check_reads(rt: &impl Abort, alloc: Global) -> Result<(), Error> {
+    gives_all(rt, alloc, opened(alloc, &DEFLATED)?, &READS)
 }
 
 #[test]
@@ -132,9 +147,8 @@ fn compressed_clusters_are_read(rt: HostRuntime) -> Result<(), Fail> {
     Ok(())
 }
 
-/// What entries and streams are told to be.
-fn check_told(rt: &impl Abort, alloc: Global) -> Result<(), Error> {
-    let image = opened(alloc, &DEFLATED)?;
+/// What the entries and streams of the first image are told to be.
+fn is_told<S: Storage>(rt: &impl Abort, alloc: Global, image: &Qcow2<S>) -> Result<(), Error> {
     let second = GuestCluster::Compressed {
         at: 1556,
         length: 492,
@@ -156,19 +170,26 @@ fn check_told(rt: &impl Abort, alloc: Global) -> Result<(), Error> {
     Ok(())
 }
 
+fn check_told(rt: &impl Abort, alloc: Global) -> Result<(), Error> {
+    is_told(rt, alloc, &opened(alloc, &DEFLATED)?)
+}
+
 #[test]
 fn compressed_clusters_are_told(rt: HostRuntime) -> Result<(), Fail> {
     check_told(&rt, rt.alloc())?;
     Ok(())
 }
 
-fn check_zstd(rt: &impl Abort, alloc: Global) -> Result<(), Error> {
-    let image = opened(alloc, &BY_ZSTD)?;
+/// An image is compressed by Zstandard, and its first cluster isn't read.
+fn is_by_zstd<S: Storage>(rt: &impl Abort, alloc: Global, image: Qcow2<S>) -> Result<(), Error> {
     let unsupported = Err(Error::Unsupported);
     assert_eq!(rt; image.header().compression(), Compression::Zstd);
     assert_eq!(rt; image.stream_fault(alloc, 0), Err(Error::Unsupported));
-    gives(rt, alloc, &FormatAccess::new(image), (0, 512, unsupported))?;
-    Ok(())
+    gives_all(rt, alloc, image, &[(0, 512, unsupported)])
+}
+
+fn check_zstd(rt: &impl Abort, alloc: Global) -> Result<(), Error> {
+    is_by_zstd(rt, alloc, opened(alloc, &BY_ZSTD)?)
 }
 
 /// The header of the second image, with another kind of compression.

@@ -4,12 +4,12 @@ ghost use Rattle.std.specs.Prelude.{None};
 
 use super::files::stored;
 use super::formats::{
-    Image, above, alone, cow_driver, qcow2_driver, qcow2_file, raw_driver, write,
+    Image, above, alone, cow_driver, qcow2_driver, qcow2_file, raw_driver, write_to,
 };
 use imago::copy::{CopyError, Kind, Run, Runs, Target, copy_disk, first_difference};
 use imago::error::Error;
 use imago::mem::MemStorage;
-use imago::{FormatAccess, FormatDriverInstance};
+use imago::{FormatAccess, FormatDriverInstance, Storage};
 use std::alloc::Global;
 use std::io;
 use std::process::Abort;
@@ -75,7 +75,7 @@ fn written(
 ) -> Result<Image<MemStorage>, Error> {
     let below = alone(raw_driver(stored(alloc, below)?)?);
     let mut image = above(alloc, cow_driver(alloc, stored(alloc, b"")?)?, below)?;
-    write(rt, alloc, &mut image, source)?;
+    write_to(rt, alloc, &mut image, source)?;
     Ok(image)
 }
 
@@ -143,9 +143,14 @@ fn is_made_of<D: FormatDriverInstance>(
     Ok(())
 }
 
+/// The same of an image of any format.
+fn has_runs<S: Storage>(rt: &impl Abort, image: &Image<S>, expected: &[Row]) -> Result<(), Error> {
+    is_made_of(rt, image, expected)
+}
+
 fn check_runs(rt: &impl Abort, alloc: Global) -> Result<(), Error> {
     for &(disk, expected) in &RUNS {
-        is_made_of(rt, &image_of(rt, alloc, disk)?, expected)?;
+        has_runs(rt, &image_of(rt, alloc, disk)?, expected)?;
     }
     Ok(())
 }
@@ -253,9 +258,20 @@ fn is_copied_by<D: FormatDriverInstance>(
     Ok(())
 }
 
+/// The same of an image of any format.
+fn makes_calls<S: Storage>(
+    rt: &impl Abort,
+    alloc: Global,
+    image: &Image<S>,
+    room: usize,
+    expected: (&[Put], (usize, &[u8])),
+) -> Result<(), CopyError> {
+    is_copied_by(rt, alloc, image, room, expected)
+}
+
 fn check_copies(rt: &impl Abort, alloc: Global) -> Result<(), CopyError> {
     for &(disk, room, calls, bytes) in &COPIES {
-        is_copied_by(rt, alloc, &image_of(rt, alloc, disk)?, room, (calls, bytes))?;
+        makes_calls(rt, alloc, &image_of(rt, alloc, disk)?, room, (calls, bytes))?;
     }
     Ok(())
 }
@@ -294,11 +310,21 @@ fn differ_first_at<D: FormatDriverInstance>(
     Ok(())
 }
 
+/// The same of images of any format.
+fn differ_at<S: Storage>(
+    rt: &impl Abort,
+    alloc: Global,
+    images: (&Image<S>, &Image<S>),
+    expected: Option<u64>,
+) -> Result<(), Error> {
+    differ_first_at(rt, alloc, images, expected)
+}
+
 fn check_differences(rt: &impl Abort, alloc: Global) -> Result<(), Error> {
     for &(left, right, expected) in &PAIRS {
         let left = image_of(rt, alloc, left)?;
         let right = image_of(rt, alloc, right)?;
-        differ_first_at(rt, alloc, (&left, &right), expected)?;
+        differ_at(rt, alloc, (&left, &right), expected)?;
     }
     Ok(())
 }

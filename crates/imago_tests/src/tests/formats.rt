@@ -166,11 +166,16 @@ fn printed<T: Display>(alloc: Global, value: &T) -> Result<String, Error> {
     Ok(format!(in alloc; "{value}")?)
 }
 
+/// The text of an image, and that of its whole chain.
+fn texts_of<S: Storage>(alloc: Global, image: &Image<S>) -> Result<(String, String), Error> {
+    Ok((printed(alloc, image)?, printed(alloc, &image.chain_text())?))
+}
+
 fn check_texts(rt: &impl Abort, alloc: Global) -> Result<(), Error> {
     for &(layers, text, of_chain) in &TEXTS {
-        let image = laid(alloc, layers)?;
-        assert_eq!(rt; printed(alloc, &image)?.as_str(), text);
-        assert_eq!(rt; printed(alloc, &image.chain_text())?.as_str(), of_chain);
+        let (own, whole) = texts_of(alloc, &laid(alloc, layers)?)?;
+        assert_eq!(rt; own.as_str(), text);
+        assert_eq!(rt; whole.as_str(), of_chain);
     }
     Ok(())
 }
@@ -189,7 +194,7 @@ fn is_spent<D: FormatDriverInstance>(image: &FormatAccess<D>) -> bool
 }
 
 /// Writes bytes to an image.
-pub(super) fn write<D: FormatDriverInstance>(
+fn write<D: FormatDriverInstance>(
     rt: &impl Abort,
     alloc: Global,
     image: &mut FormatAccess<D>,
@@ -197,6 +202,16 @@ pub(super) fn write<D: FormatDriverInstance>(
 ) -> Result<(), Error> {
     assert!(rt; is_spent(&*image));
     image.write(alloc, source, offset)
+}
+
+/// The same of an image of any format.
+pub(super) fn write_to<S: Storage>(
+    rt: &impl Abort,
+    alloc: Global,
+    image: &mut Image<S>,
+    source: (&[u8], u64),
+) -> Result<(), Error> {
+    write(rt, alloc, image, source)
 }
 
 /// What an image has: its size, and four bytes at each of those offsets.
@@ -218,45 +233,39 @@ fn shows<D: FormatDriverInstance>(
     Ok(())
 }
 
-/// The first file of an image has those bytes.
-fn keeps<D: FormatDriverInstance<Storage = MemStorage>>(
-    rt: &impl Abort,
-    image: &FormatAccess<D>,
-    file: &[u8],
-) {
-    assert_eq!(rt;
-        image.inner().storage(0).map(MemStorage::as_bytes),
-        Some(file)
-    );
+/// The first file of an image.
+fn first_file<S: Storage>(image: &Image<S>) -> Option<&S> {
+    image.inner().storage(0)
 }
 
-/// Writes bytes to an image, which has that first file then, if one is told, and shows that.
-/// Answers what the write did.
-fn written_shows<D: FormatDriverInstance<Storage = MemStorage>>(
+/// Writes bytes to an image, which shows that then. Answers what the write did.
+fn written_shows<S: Storage>(
     rt: &impl Abort,
     alloc: Global,
-    image: FormatAccess<D>,
+    image: &mut Image<S>,
     written: (&[u8], u64),
-    (expected, file): (Shown, Option<&[u8]>),
+    expected: Shown,
 ) -> Result<Result<(), Error>, Error> {
-    let mut image = image;
-    let answer = write(rt, alloc, &mut image, written);
-    if let Some(file) = file {
-        keeps(rt, &image, file);
-    }
-    shows(rt, alloc, &image, expected)?;
+    let answer = write(rt, alloc, &mut *image, written);
+    shows(rt, alloc, &*image, expected)?;
     Ok(answer)
 }
 
-/// The same of an image of that kind.
+/// The same of an image of that kind, which has that first file then, if one is told.
 fn on(
     rt: &impl Abort,
     alloc: Global,
     kind: Kind,
     written: (&[u8], u64),
-    expected: (Shown, Option<&[u8]>),
+    (expected, file): (Shown, Option<&[u8]>),
 ) -> Result<Result<(), Error>, Error> {
-    written_shows(rt, alloc, made(alloc, kind)?, written, expected)
+    let mut image = made(alloc, kind)?;
+    let answer = written_shows(rt, alloc, &mut image, written, expected)?;
+    if let Some(file) = file {
+        let kept = first_file(&image).map(MemStorage::as_bytes);
+        assert_eq!(rt; kept, Some(file));
+    }
+    Ok(answer)
 }
 
 /// A write to an image of that kind is refused, and leaves its disk and its first file as they

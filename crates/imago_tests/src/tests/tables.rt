@@ -134,11 +134,7 @@ static ROWS: [Row; 18] = [
 ];
 
 /// Opens the image of that file, within the limit if there is one.
-fn opened(
-    alloc: Global,
-    file: FileStorage<Unreadable>,
-    most: Option<u64>,
-) -> Result<Qcow2<FileStorage<Unreadable>>, OpenFault> {
+fn opened<S: Storage>(alloc: Global, file: S, most: Option<u64>) -> Result<Qcow2<S>, OpenFault> {
     match most {
         Some(most) => Qcow2::open_within(alloc, file, most),
         None => Ok(Qcow2::open_image(alloc, file, false)?),
@@ -153,18 +149,23 @@ fn is_name(name: Option<Vec<u8>>, expected: &[u8]) -> bool {
     }
 }
 
-/// Opens the image of a row, and asks it for what it says of its backing file. Answers whether both
-/// names are those of the file.
+/// Opens the image of that file, and asks it for what it says of its backing file. Answers whether
+/// both names are those of the file.
+fn names_of<S: Storage>(alloc: Global, file: S, most: Option<u64>) -> Result<bool, OpenFault> {
+    let image = opened(alloc, file, most)?;
+    let format = image.backing_format(alloc)?;
+    let name = image.backing_file(alloc)?;
+    Ok(is_name(format, b"raw") && is_name(name, b"base"))
+}
+
+/// The same of the image of a row.
 fn asked(alloc: Global, row: &Row) -> Result<bool, OpenFault> {
     let &Row(second, (from, to), most, _) = row;
     let inner = MemoryFile::new(file_of(alloc, second)?);
     let Ok(file) = FileStorage::new(Unreadable { inner, from, to }, None, false) else {
         return Ok(false);
     };
-    let image = opened(alloc, file, most)?;
-    let format = image.backing_format(alloc)?;
-    let name = image.backing_file(alloc)?;
-    Ok(is_name(format, b"raw") && is_name(name, b"base"))
+    names_of(alloc, file, most)
 }
 
 /// The same, and once more where memory was refused.
@@ -208,14 +209,19 @@ fn has_no_room<S: Storage>(alloc: Global, storage: S) -> bool {
     Cow::create(alloc, storage, u64::MAX, 512).is_err()
 }
 
+/// Whether each driver refuses a storage.
+fn is_refused<S: Storage>(alloc: Global, storage: &mut S) -> bool {
+    Qcow2::open_image(alloc, &mut *storage, false).is_err()
+        && Qcow2::open_within(alloc, &mut *storage, 0).is_err()
+        && Vmdk::open_image(alloc, &mut *storage, false).is_err()
+        && has_no_room(alloc, &mut *storage)
+}
+
 /// Has each driver refuse a storage that is lent to it, which is as it was then.
 fn check_lent(rt: &impl Abort, alloc: Global) -> Result<(), Error> {
     let mut storage = lent(alloc)?;
     for _ in 0..2 {
-        assert!(rt; Qcow2::open_image(alloc, &mut storage, false).is_err());
-        assert!(rt; Qcow2::open_within(alloc, &mut storage, 0).is_err());
-        assert!(rt; Vmdk::open_image(alloc, &mut storage, false).is_err());
-        assert!(rt; has_no_room(alloc, &mut storage));
+        assert!(rt; is_refused(alloc, &mut storage));
         assert!(rt; storage.file().as_bytes() == NO_IMAGE);
         assert!(rt; storage.file().syncs() == 0);
     }
