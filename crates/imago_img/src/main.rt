@@ -3,7 +3,7 @@
 //! into raw files.
 #![tactic(auto)]
 
-use imago_img_parts::guarded::Confined;
+use imago_img_files::guarded::Confined;
 use imago_img_parts::run::{run, unread_status};
 use imago_img_parts::system::System;
 use std::env::{self, Env};

@@ -2,7 +2,6 @@
 -- SPDX-License-Identifier: MIT
 use Rattle.std.proofs.Common.{◌≡◌, zero, suc, false, nat_eq, arith, ℕ, List, ◌∷◌, map, Option, Some, None, Ok, IfSome, String, Global, string_bytes, refl, sym, ap, subst, ◌∙◌}
 use Rattle.std.proofs.lemmas.Bool.Decides.{nat_tests}
-use Rattle.imago_storage.specs.Features.{Features}
 use Rattle.imago_vmdk.specs.declared.line.Extent.{Extent}
 use Rattle.imago_vmdk.specs.Line.{extent_with}
 use Rattle.imago_vmdk.specs.Reading.{reading_of}
@@ -12,25 +11,11 @@ use Rattle.imago_images.specs.declared.opening.Opening.{Opening}
 use Rattle.imago_images.specs.declared.opening.OtherFiles.{OtherFiles}
 use Rattle.imago_images.specs.Alone.{NamesNoOther}
 use Rattle.imago_images.specs.Formats.{IsFormatBy}
-use Rattle.imago_images.specs.HostBytes.{HasBytes}
 use Rattle.imago_qcow2_check.specs.declared.fault.Verdict.{Verdict}
 use Rattle.imago_qcow2_check.specs.declared.fault.Verdict.TheVariants.{Corrupt}
 use Rattle.imago_qcow2_check.specs.Faults.{verdict_of}
-use Rattle.imago_img_parts.specs.Checked.{IsHeld, AreHeld, HasSoundExtents, IsQcow2Checked, IsCheckedAs, IsChecked, most_memory}
-
-module _ {S : Type 0} (features : S → Features) (stored : S → List ℕ)
-    (known : Option (List ℕ → List ℕ)) (path : List ℕ) (file : S) where
-  -- what holds of a storage's bytes holds of the file of the path
-  pub of_file : (P : List ℕ → Type 0) → ((bytes : List ℕ) → HasBytes features stored bytes file → P bytes)
-      → IfSome known (λ files. HasBytes features stored (files path) file)
-      → IfSome known (λ files. P (files path))
-  of_file P h has = each known has
-    where
-      each : (k : Option (List ℕ → List ℕ))
-          → IfSome k (λ files. HasBytes features stored (files path) file)
-          → IfSome k (λ files. P (files path))
-      each None has = tt
-      each (Some files) has = h (files path) has
+use Rattle.imago_img_files.specs.Openings.{most_memory}
+use Rattle.imago_img_checks.specs.Checked.{IsHeld, AreHeld, HasSoundExtents, IsQcow2Checked, IsCheckedAs, IsChecked}
 
 -- the extents of a descriptor that was read, and that are held
 pub sound_extents : (how : Opening) (known : Option (List ℕ → List ℕ))

@@ -37,11 +37,12 @@ use Rattle.imago_images.specs.Layers.{SaysBacking, size_by}
 use Rattle.imago_images.specs.Longest.{IsNoLonger, IsOverLimit, IsSizeUnknown, IsTooLong, IsTooLarge, HasLongL1, l1_length}
 use Rattle.imago_images.specs.Refusals.{IsRefused, IsBySystem, IsUnread, IsUnseen, IsUnknown, IsUnopened, IsByQcow2, HasLargerTables}
 use Rattle.imago_images.specs.Signatures.{signature_of, other_signature_of}
-use Rattle.imago_img_parts.specs.declared.failure.Failure.{Failure}
-use Rattle.imago_img_parts.specs.Checked.{most_memory}
-use Rattle.imago_img_parts.specs.Vetted.{named_by, named_tables, AreSafeTables, IsSafeQcow2, IsSafeAs, IsVetted, IsOfHost, IsHostRefusal, IsHostFailure, VettedOpens, VettedIsSeen, IsSeenAs}
-use Rattle.imago_img_parts.specs.VettedParts.{is_of_file, is_told, IsTold}
-use Rattle.imago_img_parts.proofs.VetSteps.{named_same, cluster_moved, count_moved, start_moved}
+use Rattle.imago_img_files.specs.declared.failure.Failure.{Failure}
+use Rattle.imago_img_files.specs.Openings.{most_memory}
+use Rattle.imago_img_files.specs.Failures.{IsOfHost, IsHostRefusal, IsHostFailure}
+use Rattle.imago_img_checks.specs.Vetted.{named_by, named_tables, AreSafeTables, IsSafeQcow2, IsSafeAs, IsVetted, VettedOpens, VettedIsSeen, IsSeenAs}
+use Rattle.imago_img_checks.specs.VettedParts.{is_of_file, is_told, IsTold}
+use Rattle.imago_img_checks.proofs.VetSteps.{named_same, cluster_moved, count_moved, start_moved}
 
 -- what is said of the reason of a refusal
 host_refusal :

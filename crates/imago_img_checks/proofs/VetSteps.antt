@@ -18,9 +18,9 @@ use Rattle.imago_qcow2.proofs.HeaderSteps.{same32, same64, compression_same, hea
 use Rattle.imago_images.specs.declared.opening.Opening.{Opening}
 use Rattle.imago_images.specs.Layers.{SaysBacking}
 use Rattle.imago_images.specs.Longest.{l1_length}
-use Rattle.imago_img_parts.specs.declared.vet_tables.Shape.{Shape}
-use Rattle.imago_img_parts.specs.Vetted.{named_by, named_tables, IsSafeTable, AreSafeTables, IsVetted}
-use Rattle.imago_img_parts.specs.VettedParts.{IsEntrySafe, IsTableSafe, AreEntriesSafe}
+use Rattle.imago_img_checks.specs.declared.vet_tables.Shape.{Shape}
+use Rattle.imago_img_checks.specs.Vetted.{named_by, named_tables, IsSafeTable, AreSafeTables, IsVetted}
+use Rattle.imago_img_checks.specs.VettedParts.{IsEntrySafe, IsTableSafe, AreEntriesSafe}
 
 -- one more of them holds, where all did before
 module _ (P : ℕ → Type 0) where

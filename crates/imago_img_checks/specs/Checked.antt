@@ -1,7 +1,7 @@
 -- What a check says of the file of an image.
 -- SPDX-License-Identifier: MIT
-use Rattle.std.specs.Prelude.{◌≡◌, ℕ, ◌+◌, ◌*◌, ◌^◌, ◌≤◌, List, [], ◌∷◌, Option, None, Some}
-use Rattle.std.specs.Prelude.{length, Ok, IsOk, unwrap_or}
+use Rattle.std.specs.Prelude.{◌≡◌, ℕ, ◌+◌, ◌*◌, ◌≤◌, List, [], ◌∷◌, Option, None, Some}
+use Rattle.std.specs.Prelude.{length, Ok, IsOk}
 use Rattle.imago_vmdk.specs.declared.line.Extent.{Extent}
 use Rattle.imago_vmdk.specs.Reading.{reading_of}
 use Rattle.imago_qcow2.specs.Header.{header_of}
@@ -20,7 +20,8 @@ use Rattle.imago_images.specs.declared.opening.OtherFiles.{OtherFiles}
 use Rattle.imago_images.specs.Alone.{NamesNoOther}
 use Rattle.imago_images.specs.Formats.{IsFormatBy}
 use Rattle.imago_images.specs.Gate.{IsLetThrough}
-use Rattle.imago_img_parts.specs.declared.check.Found.{Found}
+use Rattle.imago_img_files.specs.Openings.{most_memory}
+use Rattle.imago_img_checks.specs.declared.check.Found.{Found}
 
 -- The file of an extent may be opened, and holds all of its bytes: a sector has 512 of them. Only a
 -- FLAT extent has a file.
@@ -42,11 +43,6 @@ abbrev pub HasSoundExtents : Opening → (List ℕ → List ℕ) → List ℕ �
 HasSoundExtents how files path = (extents : List (Extent (List ℕ))) × (size : ℕ)
     × (reading_of how.accepted (files path) ≡ Ok (extents, size))
     × AreHeld how.other_files files path extents
-
--- How many bytes of memory the tables of an image may take, and the reference counts and the uses of
--- its clusters while it is checked: 256 MiB, if nothing else is said.
-abbrev pub most_memory : Option ℕ → ℕ
-most_memory said = unwrap_or said (2 ^ 28)
 
 -- A qcow2 file with these bytes was checked: its header is accepted, nothing in it that isn't known
 -- may use clusters, and its verdict is that. Counts and uses have 8 bytes for each cluster, which

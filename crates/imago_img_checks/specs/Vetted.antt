@@ -3,7 +3,6 @@
 use Rattle.std.specs.Prelude.{◌≡◌, ℕ, zero, suc, ◌+◌, ◌*◌, ◌^◌, ◌<◌, ◌≤◌, List, length}
 use Rattle.std.specs.Prelude.{false, Option, Some, None, IsOk}
 use Rattle.std.specs.Int.{next_multiple_of}
-use Rattle.imago_storage.specs.Error.{IsExtRefusal}
 use Rattle.imago_formats.specs.declared.probe.Probed.{Probed}
 use Rattle.imago_formats.specs.declared.probe.Probed.TheVariants as Seen
 use Rattle.imago_formats.specs.Probes.{taken_by_qemu}
@@ -19,7 +18,6 @@ use Rattle.imago_qcow2.specs.Entry.{version_of, cluster_length, per_table, table
 use Rattle.imago_qcow2.specs.Entry.{cluster_in_entry}
 use Rattle.imago_qcow2.specs.Opening.{table_count}
 use Rattle.imago_images.specs.declared.failure.OpenError.{OpenError}
-use Rattle.imago_images.specs.declared.failure.Reason.{Reason}
 use Rattle.imago_images.specs.declared.files.FileStatus.{FileStatus}
 use Rattle.imago_images.specs.declared.format.ImageFormat.{ImageFormat}
 use Rattle.imago_images.specs.declared.format.ImageFormat.TheVariants.{Raw, Vmdk, Qcow2}
@@ -31,8 +29,8 @@ use Rattle.imago_images.specs.Formats.{IsFormatBy}
 use Rattle.imago_images.specs.Layers.{SaysBacking}
 use Rattle.imago_images.specs.Longest.{IsNoLonger, l1_length}
 use Rattle.imago_images.specs.Signatures.{signature_of}
-use Rattle.imago_img_parts.specs.declared.failure.Failure.{Failure}
-use Rattle.imago_img_parts.specs.Checked.{most_memory}
+use Rattle.imago_img_files.specs.Failures.{IsHostRefusal}
+use Rattle.imago_img_files.specs.Openings.{most_memory}
 
 -- So many bytes from an offset on begin in a file of that length, and end in it or in its last
 -- cluster, which may be cut.
@@ -111,26 +109,6 @@ pub record IsVetted (how : Opening) (path bytes : List ℕ) : Type 0 where
   pub seen : IsSeenAs path bytes format
   pub longest : IsNoLonger how.longest how.accepted format bytes
   pub safe : IsSafeAs how bytes format
-
--- Why a file isn't opened, if not for what it says: the host doesn't hand it out or doesn't read it,
--- its storage failed, or it is no file.
-abbrev pub IsOfHost : Reason → Type 0
-IsOfHost (Reason.System answer) = Unit {0}
-IsOfHost (Reason.Image error) = IsExtRefusal error
-IsOfHost Reason.NotAFile = Unit {0}
-IsOfHost reason = ⊥
-
--- a refusal is for such a reason, or memory was refused
-abbrev pub IsHostRefusal : OpenError → Type 0
-IsHostRefusal (OpenError.OfFile named reason) = IsOfHost reason
-IsHostRefusal OpenError.Memory = Unit {0}
-
--- a command isn't done for such a reason
-abbrev pub IsHostFailure : Failure → Type 0
-IsHostFailure (Failure.NotOpened cause) = IsHostRefusal cause
-IsHostFailure (Failure.Needed image cause) = IsHostRefusal cause
-IsHostFailure Failure.Memory = Unit {0}
-IsHostFailure failure = ⊥
 
 -- What is safe to hand on opens: where no other files are opened, and none is written to, the image
 -- of a file that is vetted so isn't refused but by the host or for memory.

@@ -9,8 +9,8 @@ use Rattle.imago_qcow2.specs.Numbers.{be64}
 use Rattle.imago_qcow2.specs.Entry.{cluster_in_entry, table_in_entry}
 use Rattle.imago_images.specs.declared.failure.OpenError.{OpenError}
 use Rattle.imago_images.specs.declared.failure.Reason.{Reason}
-use Rattle.imago_img_parts.specs.declared.vet_tables.Shape.{Shape}
-use Rattle.imago_img_parts.specs.Vetted.{IsSafeCluster}
+use Rattle.imago_img_checks.specs.declared.vet_tables.Shape.{Shape}
+use Rattle.imago_img_checks.specs.Vetted.{IsSafeCluster}
 
 -- an L2 entry can be read
 abbrev pub IsEntrySafe : Shape → ℕ → Type 0

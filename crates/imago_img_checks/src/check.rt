@@ -1,19 +1,19 @@
 // SPDX-License-Identifier: MIT
 //! Whether an image is in order.
 ghost use Rattle.std.specs.Prelude.{◌≡◌, IfOk, IfSome, option_map};
-ghost use Rattle.imago_img_parts.specs.Checked.{IsChecked, verdict_in};
+ghost use Rattle.imago_img_checks.specs.Checked.{IsChecked, verdict_in};
 
 use crate::check_qcow2::check_qcow2;
 use crate::check_vmdk::check_vmdk;
-use crate::failure::Failure;
-use crate::host::Host;
-use crate::json::quoted;
-use crate::looked::{refuse_long_disk, try_file};
 use imago_images::alone::refuse_another;
 use imago_images::file::look_at;
 use imago_images::format::ImageFormat;
 use imago_images::layer::format_of;
 use imago_images::opening::Opening;
+use imago_img_files::failure::Failure;
+use imago_img_files::host::Host;
+use imago_img_files::json::quoted;
+use imago_img_files::looked::{refuse_long_disk, try_file};
 use imago_qcow2_check::fault::Verdict;
 use std::alloc::Global;
 use std::io::{self, Write};
@@ -29,7 +29,7 @@ pub struct Found {
 }
 
 impl Found {
-    ghost use Rattle.imago_img_parts.specs.Checked.{verdict_in};
+    ghost use Rattle.imago_img_checks.specs.Checked.{verdict_in};
 
     /// What is said of the file.
     fn verdict(self) -> Verdict

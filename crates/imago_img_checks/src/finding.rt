@@ -1,11 +1,11 @@
 // SPDX-License-Identifier: MIT
 //! Why a file isn't safe to hand on.
 ghost use Rattle.std.specs.Prelude.{◌≡◌, is_some, OnOk};
-ghost use Rattle.imago_img_parts.specs.VettedParts.{is_of_file, is_told, IsTold};
+ghost use Rattle.imago_img_checks.specs.VettedParts.{is_of_file, is_told, IsTold};
 
-use crate::failure::{Failure, OpenError, Reason};
 use imago_formats::probe::Probed;
 use imago_images::format::ImageFormat;
+use imago_img_files::failure::{Failure, OpenError, Reason};
 use imago_qcow2::fault::HeaderFault;
 use imago_storage::error;
 use std::alloc::{AllocError, Global};

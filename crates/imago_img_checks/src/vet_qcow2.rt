@@ -3,21 +3,21 @@
 ghost use Rattle.std.specs.Prelude.{◌≡◌, ℕ, List, ◌≤◌, Decides, length, None, IfOk, Ok, IsTrue};
 ghost use Rattle.imago_images.specs.HostBytes.{HasBytes};
 ghost use Rattle.imago_images.specs.Layers.{SaysBacking};
-ghost use Rattle.imago_img_parts.specs.Checked.{most_memory};
+ghost use Rattle.imago_img_files.specs.Openings.{most_memory};
 ghost use Rattle.imago_storage.specs.Bytes.{IsReadAt};
 ghost use Rattle.imago_qcow2.specs.Header.{header_of, IsSound};
-ghost use Rattle.imago_img_parts.specs.Vetted.{AreSafeTables, IsSafeQcow2};
+ghost use Rattle.imago_img_checks.specs.Vetted.{AreSafeTables, IsSafeQcow2};
 
-use crate::extension::data_name;
-use crate::failure::{Failure, Reason};
 use crate::finding::{CORRUPT, Fault, Findings, LONGEST_SHOWN, Told};
-use crate::looked::unread;
-use crate::opening::MOST_MEMORY;
-use crate::qcow2_info::put;
 use crate::vet_tables::{read_bytes, vet_tables};
 use imago_file::file::FileStorage;
 use imago_file::host::HostFile;
 use imago_images::opening::Opening;
+use imago_img_files::extension::data_name;
+use imago_img_files::failure::{Failure, Reason};
+use imago_img_files::looked::unread;
+use imago_img_files::opening::MOST_MEMORY;
+use imago_img_files::qcow2_info::put;
 use imago_qcow2::fault::HeaderFault;
 use imago_qcow2::header::{self, HEAD_LENGTH, Header};
 use imago_qcow2::number::{number32, number64};

@@ -3,16 +3,16 @@
 ghost use Rattle.std.specs.Prelude.{◌≡◌, ℕ, List, Some, Decides, IfOk};
 ghost use Rattle.imago_formats.specs.Probes.{taken_by_qemu};
 ghost use Rattle.imago_images.specs.HostBytes.{HasBytes};
-ghost use Rattle.imago_img_parts.specs.Vetted.{IsSeenAs, probed_of as probed_by};
+ghost use Rattle.imago_img_checks.specs.Vetted.{IsSeenAs, probed_of as probed_by};
 
-use crate::failure::Failure;
 use crate::finding::{Fault, Told};
-use crate::looked::unread;
 use imago_file::file::FileStorage;
 use imago_file::host::HostFile;
 use imago_formats::probe::{HEAD, Probed, qemu_takes_for};
 use imago_images::format::ImageFormat;
 use imago_images::recognised::length_of;
+use imago_img_files::failure::Failure;
+use imago_img_files::looked::unread;
 use imago_storage::ext::StorageExt;
 use imago_storage::storage::Storage;
 use std::alloc::Global;

@@ -8,9 +8,9 @@ ghost use Rattle.imago_qcow2.specs.Entry.{table_in_entry};
 ghost use Rattle.imago_qcow2.specs.Header.{header_of, IsClusterSize, IsSound};
 ghost use Rattle.imago_qcow2.specs.Opening.{table_count};
 ghost use Rattle.imago_images.specs.Longest.{l1_length as l1_length_of};
-ghost use Rattle.imago_img_parts.specs.Vetted.{IsThere, IsSafeCluster, AreSafeTables};
-ghost use Rattle.imago_img_parts.specs.Vetted.{named_by, named_tables};
-ghost use Rattle.imago_img_parts.specs.VettedParts.{IsEntrySafe, IsTableSafe, AreEntriesSafe};
+ghost use Rattle.imago_img_checks.specs.Vetted.{IsThere, IsSafeCluster, AreSafeTables};
+ghost use Rattle.imago_img_checks.specs.Vetted.{named_by, named_tables};
+ghost use Rattle.imago_img_checks.specs.VettedParts.{IsEntrySafe, IsTableSafe, AreEntriesSafe};
 
 use crate::finding::{EntryFault, Fault, Findings};
 use imago_images::longest::{LONGEST_L1, l1_length};

@@ -1,12 +1,12 @@
 // SPDX-License-Identifier: MIT
 //! What speaks against a VMDK descriptor from a stranger. None is safe to hand on.
 
-use crate::failure::Failure;
 use crate::finding::{Fault, Findings, LONGEST_SHOWN, Told};
 use imago_file::file::FileStorage;
 use imago_file::host::HostFile;
 use imago_images::longest::descriptor_text;
 use imago_images::recognised::length_of;
+use imago_img_files::failure::Failure;
 use imago_storage::error::Error;
 use imago_vmdk::descriptor;
 use imago_vmdk::line::{Accepted, Extent, Line, verdict};

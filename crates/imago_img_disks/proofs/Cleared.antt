@@ -2,7 +2,7 @@
 -- SPDX-License-Identifier: MIT
 use Rattle.std.proofs.Common.{◌≡◌, inl, inr, ⊎_elim, Bool, true, false, List, ℕ, Option, Result, Ok, Err, OnOk, OnErr, refl, sym, subst}
 use Rattle.std.proofs.lemmas.Bool.{true≢false}
-use Rattle.imago_img_parts.specs.Files.{Around, IsSoOnceCleared, IsWithoutLeftOver}
+use Rattle.imago_img_files.specs.Files.{Around, IsSoOnceCleared, IsWithoutLeftOver}
 
 module _ (files : Option (List ℕ → List ℕ)) (around : Option Around) (path : List ℕ) (Might : Type 0) where
   -- it is so of files as they are

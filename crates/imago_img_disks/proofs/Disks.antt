@@ -22,10 +22,10 @@ use Rattle.imago_images.specs.Layers.{layers_value, size_by}
 use Rattle.imago_images.specs.declared.format.ImageFormat.TheVariants.{Raw, Vmdk, Qcow2}
 use Rattle.imago_images.specs.Images.{AreLayers, IsImageIn}
 use Rattle.imago_images.proofs.NameAlike.{raw_alike, image_alike, layers_said}
-use Rattle.imago_img_parts.specs.Files.{Around, begun, ended, with_file, IsMade, IsWhole}
+use Rattle.imago_img_files.specs.Files.{Around, begun, ended, with_file, IsMade, IsWhole}
 use Rattle.imago_disk.specs.Shows.{ShowsDisk, IsImage, HasSize}
 use Rattle.imago_disk.proofs.Shown.{shows_disk, disk_length}
-use Rattle.imago_img_parts.specs.Disks.{IsDiskAppended, IsConverted, NamesStandAlike, AreSaidAlike, ArePathsOfOne, AreCompared, is_left_out, opened_as}
+use Rattle.imago_img_disks.specs.Disks.{IsDiskAppended, IsConverted, NamesStandAlike, AreSaidAlike, ArePathsOfOne, AreCompared, is_left_out, opened_as}
 
 abbrev taken_or : ImageFormat → Result ImageFormat Signature → ImageFormat
 taken_or other (Ok f) = f

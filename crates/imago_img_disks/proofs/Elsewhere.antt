@@ -14,9 +14,9 @@ use Rattle.imago_images.specs.ImageFiles.{AreNamed, HasFiles, HasStorages, HasSt
 use Rattle.imago_images.specs.Way.{identity, is_among}
 use Rattle.imago_words.specs.declared.command.Backing.{Backing}
 use Rattle.imago_words.specs.declared.command.Create.{Create}
-use Rattle.imago_img_parts.specs.LeftOvers.{AreElsewhere, IsElsewhere, IsElsewhereBelow, IsElsewhereIn, IsApart, IsApartBelow, IsNoSource, IsNoSourceBelow}
+use Rattle.imago_img_disks.specs.LeftOvers.{AreElsewhere, IsElsewhere, IsElsewhereBelow, IsElsewhereIn, IsApart, IsApartBelow, IsNoSource, IsNoSourceBelow}
 use Rattle.imago_disk.specs.Files.{is_one_file}
-use Rattle.imago_img_parts.specs.Openings.{how_by}
+use Rattle.imago_img_files.specs.Openings.{how_by}
 
 -- the first storages of a driver, so many of them, are elsewhere
 abbrev pub AreElsewhereTo : Stores → (List ℕ → FileStatus) → ℕ × ℕ → ℕ → Type 0

@@ -3,7 +3,7 @@
 use Rattle.std.proofs.Common.{◌≡◌, ℕ, List, Option, Some, None, Result, OnOk, IfSome, sym, subst}
 use Rattle.imago_words.specs.declared.command.Measure.{Measure}
 use Rattle.imago_words.specs.declared.command.Measured.{Measured}
-use Rattle.imago_img_parts.specs.Measures.{IsMeasuredDisk, IsMeasured}
+use Rattle.imago_img_disks.specs.Measures.{IsMeasuredDisk, IsMeasured}
 
 -- the disk that is asked for
 pub measured_disk : {A E : Type 0} (r : Result A E) (c : Measure) (known : Option (List ℕ → List ℕ)) (d : Measured)

@@ -1,6 +1,6 @@
 -- The files that commands make, from what is put into them.
 -- SPDX-License-Identifier: MIT
-use Rattle.std.proofs.Common.{◌≡◌, ℕ, inl, Bool, false, List, [], Option, Some, None, Result, Ok, Err, length, OnOk, IsOk, IfSome, IsTrue, refl, sym, ap, subst, ◌∙◌}
+use Rattle.std.proofs.Common.{◌≡◌, ℕ, Bool, false, List, [], Option, Some, None, Result, Ok, Err, length, OnOk, IsOk, IfSome, IsTrue, refl, sym, ap, subst, ◌∙◌}
 use Rattle.std.specs.Prelude.{option_map}
 use Rattle.std.specs.Int.{next_multiple_of}
 use Rattle.std.specs.Prelude.{unwrap_or, replicate, ◌++◌, IfOk}
@@ -21,24 +21,19 @@ use Rattle.imago_qcow2_new.specs.declared.layout.Layout.{Layout}
 use Rattle.imago_qcow2_new.specs.Layout.{IsLayoutOf, StoresNothing, file_length, size_of}
 use Rattle.imago_qcow2_new.specs.Image.{IsNewFile, IsNewFileIn}
 use Rattle.imago_qcow2_new.specs.Names.{HasNoNames}
-use Rattle.imago_images.specs.declared.files.FileStatus.{FileStatus}
 use Rattle.imago_images.specs.declared.format.ImageFormat.{ImageFormat}
 use Rattle.imago_images.specs.Formats.{IsFormatBy}
 use Rattle.imago_images.specs.Images.{IsImageIn}
-use Rattle.imago_words.specs.declared.command.Convert.{Convert}
 use Rattle.imago_images.specs.declared.opening.Opening.{Opening}
-use Rattle.imago_img_parts.specs.Commands.{IsConvertedTo, IsNewlyConverted}
 use Rattle.imago_file.specs.Names.{path_beside}
 use Rattle.imago_disk.specs.Shows.{HasSize}
-use Rattle.imago_img_parts.specs.Disks.{IsConverted}
-use Rattle.imago_img_parts.specs.Openings.{how_by}
-use Rattle.imago_img_parts.specs.LeftOvers.{IsApart}
-use Rattle.imago_img_parts.specs.Files.{Around, begun, ended, with_file, IsMade, IsSoOnceCleared, IsWhole}
-use Rattle.imago_img_parts.specs.NewFiles.{HasNamesBelow, IsCopyBy, IsEmptyFile, IsFilledWith, IsNewImage, IsNewlyMade, IsQcow2Copy, IsAboveImage, IsPlanned, IsSizeBelow, IsSizeBy, format_by}
+use Rattle.imago_img_files.specs.Openings.{how_by}
+use Rattle.imago_img_files.specs.Files.{Around, begun, ended, with_file, IsMade, IsWhole}
+use Rattle.imago_img_disks.specs.NewFiles.{HasNamesBelow, IsCopyBy, IsEmptyFile, IsFilledWith, IsNewImage, IsNewlyMade, IsQcow2Copy, IsAboveImage, IsPlanned, IsSizeBelow, IsSizeBy, format_by}
 use Rattle.imago_disk.proofs.Shown.{shows_disk, disk_length}
-use Rattle.imago_img_parts.proofs.Disks.{image_sized, begun_ended, on_ok}
+use Rattle.imago_img_disks.proofs.Disks.{image_sized, begun_ended, on_ok}
 
-then : {A E : Type 0} {P Q : Type 0} (r : Result A E) → (P → Q) → OnOk r P → OnOk r Q
+pub then : {A E : Type 0} {P Q : Type 0} (r : Result A E) → (P → Q) → OnOk r P → OnOk r Q
 then (Ok x) f h = f h
 then (Err e) f h = tt
 
@@ -216,34 +211,3 @@ pub empty_by : (settings : Settings) (below : Option Backing) (size : ℕ) (l : 
     → IfSome known (λ files. (file : List ℕ) → IsNewFile l (λ _. Byte 0) file
     → IsEmptyFile (New.Qcow2 settings) below size file)
 empty_by settings below size l is names none known = each_of known _ (λ files file made. (l, is, names, none, made))
-
--- What a conversion says of its format.
-module _ (how : Opening) (c : Convert) (statuses left_overs : Option (List ℕ → FileStatus))
-    (old new : Option (List ℕ → List ℕ)) (before after : Option Around)
-    {E : Type 0} (r : Result (Unit {0}) E) where
-  abbrev Might : Type 0
-  Might = IsApart how old statuses left_overs c.source.now c.target.now
-
-  pub converted_raw : c.target_format ≡ New.Raw
-      → OnOk r (IsSoOnceCleared c.force old before c.target.now Might (λ files around. IsConverted how c.force files new around after c.source.now c.target.now))
-      → OnOk r (IsNewlyConverted how c statuses left_overs old new before after 0)
-  converted_raw e h = then r
-      (λ k. inl (
-        refl,
-        subst (λ (f : NewFormat). IsSoOnceCleared c.force old before c.target.now Might
-            (λ files around. IsConvertedTo f how c files new around after)) (sym e) k,
-      )) h
-
-  pub converted_qcow2 : (settings : Settings) (format : Format) → format ≡ format_by settings
-      → c.target_format ≡ New.Qcow2 settings
-      → OnOk r (IsSoOnceCleared c.force old before c.target.now Might (λ files around. IsNewlyMade
-      (IsQcow2Copy how c.source.now format) c.force files new around after c.target.now))
-      → OnOk r (IsNewlyConverted how c statuses left_overs old new before after 0)
-  converted_qcow2 settings format is e h = then r
-      (λ k. inl (
-        refl,
-        subst (λ (f : NewFormat). IsSoOnceCleared c.force old before c.target.now Might
-            (λ files around. IsConvertedTo f how c files new around after)) (sym e)
-            (subst (λ (f : Format). IsSoOnceCleared c.force old before c.target.now Might (λ files around. IsNewlyMade
-            (IsQcow2Copy how c.source.now f) c.force files new around after c.target.now)) is k),
-      )) h

@@ -12,11 +12,11 @@ use Rattle.imago_images.specs.declared.format.ImageFormat.{ImageFormat}
 use Rattle.imago_images.specs.declared.opening.Opening.{Opening}
 use Rattle.imago_images.specs.Formats.{IsFormatBy}
 use Rattle.imago_images.specs.Images.{IsImageIn}
-use Rattle.imago_img_parts.specs.Files.{IsOverwritten}
+use Rattle.imago_img_files.specs.Files.{IsOverwritten}
 use Rattle.imago_disk.specs.Shows.{ShowsDisk, HasSize}
-use Rattle.imago_img_parts.specs.Disks.{IsDiskAppended, IsBegunDisk, IsDiskPartlyAppended, IsConvertedOver, IsPartlyConvertedOver}
+use Rattle.imago_img_disks.specs.Disks.{IsDiskAppended, IsBegunDisk, IsDiskPartlyAppended, IsConvertedOver, IsPartlyConvertedOver}
 use Rattle.imago_disk.proofs.Shown.{shows_disk}
-use Rattle.imago_img_parts.proofs.Disks.{disk_sized}
+use Rattle.imago_img_disks.proofs.Disks.{disk_sized}
 
 -- what holds anyway holds where there is a refusal
 pub on_refusal : {A E : Type 0} (r : Result A E) (P : Type 0) → P → OnErr r P

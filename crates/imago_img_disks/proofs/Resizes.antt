@@ -5,9 +5,9 @@ use Rattle.std.specs.Int.{next_multiple_of}
 use Rattle.imago_words.specs.declared.command.Resize.{Resize}
 use Rattle.imago_images.specs.declared.format.ImageFormat.TheVariants.{Raw}
 use Rattle.imago_images.specs.Formats.{IsFormatBy}
-use Rattle.imago_img_parts.specs.Files.{IsResized}
-use Rattle.imago_img_parts.specs.Openings.{image_format}
-use Rattle.imago_img_parts.specs.Resized.{IsImageResized, IsNewSize, IsSizeAsked, raw_size}
+use Rattle.imago_img_files.specs.Files.{IsResized}
+use Rattle.imago_img_files.specs.Openings.{image_format}
+use Rattle.imago_img_disks.specs.Resized.{IsImageResized, IsNewSize, IsSizeAsked, raw_size}
 
 module _ (r : Resize) where
   -- what is found of a file says which size its image gets

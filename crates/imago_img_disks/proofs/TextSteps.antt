@@ -8,7 +8,7 @@ use Rattle.std.proofs.Math.ListN.{length-append}
 use borrow.Rule.Slice.PartMut.{put_mid}
 use Rattle.std.proofs.Math.Seq.{take-append-add}
 use mathlib.Core.List.{append_assoc}
-use Rattle.imago_img_parts.specs.Lines.{column}
+use Rattle.imago_img_disks.specs.Lines.{column}
 
 -- digits and spaces, of which a column is the first part
 pub column_of :

@@ -11,7 +11,7 @@ use Rattle.imago_images.specs.declared.format.ImageFormat.TheVariants.{Raw, Vmdk
 use Rattle.imago_images.specs.Formats.{format_by_name}
 use Rattle.imago_images.specs.Gate.{folder_path}
 use Rattle.imago_disk.specs.Shows.{ShowsDisk, HasDisk}
-use Rattle.imago_img_parts.specs.Files.{Around, with_file, IsMade, IsOverwritten}
+use Rattle.imago_img_files.specs.Files.{Around, with_file, IsMade, IsOverwritten}
 
 -- the disk of the image of a path was put behind what was there before, where both are told
 abbrev pub IsDiskAppended :

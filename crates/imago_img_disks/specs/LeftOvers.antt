@@ -12,7 +12,7 @@ use Rattle.imago_images.specs.Way.{identity}
 use Rattle.imago_disk.specs.Files.{is_one_file}
 use Rattle.imago_words.specs.declared.command.Backing.{Backing}
 use Rattle.imago_words.specs.declared.command.Create.{Create}
-use Rattle.imago_img_parts.specs.Openings.{how_by}
+use Rattle.imago_img_files.specs.Openings.{how_by}
 
 -- no storage of a driver has the path of a file as its name that is that one
 abbrev pub AreElsewhere : Stores → (List ℕ → FileStatus) → ℕ × ℕ → Type 0

@@ -3,7 +3,7 @@
 use Rattle.std.specs.Prelude.{ℕ, ◌-◌, List, [], ◌∷◌, ◌++◌, Option, None, Some}
 use Rattle.std.specs.Prelude.{length, replicate, codes}
 use Rattle.std.specs.Fmt.{decimal}
-use Rattle.imago_img_parts.specs.declared.lines.LineKind.{LineKind}
+use Rattle.imago_img_disks.specs.declared.lines.LineKind.{LineKind}
 
 -- a number in a column of twenty characters, and what parts it from the next column
 abbrev pub column : ℕ → List ℕ

@@ -5,7 +5,7 @@ use Rattle.imago_words.specs.declared.command.Measure.{Measure}
 use Rattle.imago_words.specs.declared.command.Measured.{Measured}
 use Rattle.imago_words.specs.declared.command.Measured.TheVariants as M
 use Rattle.imago_disk.specs.Shows.{IsImage}
-use Rattle.imago_img_parts.specs.Openings.{how_by}
+use Rattle.imago_img_files.specs.Openings.{how_by}
 
 -- a disk that is measured is that of an image, or one of that many bytes
 abbrev pub IsMeasuredDisk : Measure → Measured → (List ℕ → List ℕ) → Type 0

@@ -25,8 +25,8 @@ use Rattle.imago_qcow2_new.specs.Image.{IsNewFile, IsQcow2Of}
 use Rattle.imago_images.specs.declared.opening.Opening.{Opening}
 use Rattle.imago_file.specs.Names.{path_beside}
 use Rattle.imago_disk.specs.Shows.{HasSize, IsImage, ShowsDisk}
-use Rattle.imago_img_parts.specs.Openings.{how_by}
-use Rattle.imago_img_parts.specs.Files.{Around, with_file, IsMade}
+use Rattle.imago_img_files.specs.Openings.{how_by}
+use Rattle.imago_img_files.specs.Files.{Around, with_file, IsMade}
 
 -- how a qcow2 file is made, by what the command line says of it
 abbrev pub version_by : Said.Version → Version

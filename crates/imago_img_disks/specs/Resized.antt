@@ -8,8 +8,8 @@ use Rattle.imago_words.specs.declared.command.NewSize.TheVariants as N
 use Rattle.imago_words.specs.declared.command.Resize.{Resize}
 use Rattle.imago_images.specs.declared.format.ImageFormat.TheVariants.{Raw}
 use Rattle.imago_images.specs.Formats.{IsFormatBy}
-use Rattle.imago_img_parts.specs.Files.{IsResized}
-use Rattle.imago_img_parts.specs.Openings.{image_format}
+use Rattle.imago_img_files.specs.Files.{IsResized}
+use Rattle.imago_img_files.specs.Openings.{image_format}
 
 -- the size that a disk gets which has that size
 abbrev pub size_after : NewSize → ℕ → ℕ

@@ -4,11 +4,9 @@ ghost use Rattle.std.specs.Prelude.{◌≡◌, true, false, IsTrue, IfOk, IfSome
 ghost use Rattle.imago_copy.specs.Differences.{IsFirstDifferentValue};
 ghost use Rattle.imago_disk.specs.Disk.{values, is_told};
 ghost use Rattle.imago_images.specs.Gate.{folder_path};
-ghost use Rattle.imago_img_parts.specs.Disks.{AreCompared, ArePathsOfOne, NamesStandAlike};
-ghost use Rattle.imago_img_parts.specs.Disks.{AreSaidAlike, is_left_out, opened_as};
+ghost use Rattle.imago_img_disks.specs.Disks.{AreCompared, ArePathsOfOne, NamesStandAlike};
+ghost use Rattle.imago_img_disks.specs.Disks.{AreSaidAlike, is_left_out, opened_as};
 
-use crate::failure::Failure;
-use crate::host::Host;
 use crate::image::{CHUNK, FileDisk, not_read, opened, readable_size};
 use imago_any_driver::any::AnyDriver;
 use imago_disk::disk::{Disk, Unread};
@@ -17,6 +15,8 @@ use imago_images::files::Files;
 use imago_images::format::ImageFormat;
 use imago_images::gate::folder_of;
 use imago_images::opening::Opening;
+use imago_img_files::failure::Failure;
+use imago_img_files::host::Host;
 use imago_storage::error::Error;
 use imago_storage::storage::Storage;
 use std::alloc::Global;

@@ -2,15 +2,13 @@
 //! An image's disk, written to a raw file.
 ghost use Rattle.std.specs.Prelude.{◌≡◌, OnOk, OnErr, IfOk, IfSome, IsOk, option_map};
 ghost use Rattle.imago_disk.specs.Shows.{HasSize};
-ghost use Rattle.imago_img_parts.specs.Disks.{IsDiskAppended, IsDiskPartlyAppended};
-ghost use Rattle.imago_img_parts.specs.Disks.{IsConverted};
-ghost use Rattle.imago_img_parts.specs.Files.{ended, with_file, IsMade, IsSoOnceCleared};
-ghost use Rattle.imago_img_parts.specs.Files.{IsWhole};
-ghost use Rattle.imago_img_parts.specs.LeftOvers.{IsApart, IsNoSource};
+ghost use Rattle.imago_img_disks.specs.Disks.{IsDiskAppended, IsDiskPartlyAppended};
+ghost use Rattle.imago_img_disks.specs.Disks.{IsConverted};
+ghost use Rattle.imago_img_files.specs.Files.{ended, with_file, IsMade, IsSoOnceCleared};
+ghost use Rattle.imago_img_files.specs.Files.{IsWhole};
+ghost use Rattle.imago_img_disks.specs.LeftOvers.{IsApart, IsNoSource};
 ghost use Rattle.imago_images.specs.Way.{identity};
 
-use crate::failure::{Failure, Reason, Refusal};
-use crate::host::{FileKind, FileStatus, Host, LeftOver, Making};
 use crate::image::{CHUNK, FileDisk, has_file, not_read, opened, readable_size};
 use crate::progress::Progress;
 use crate::short::warn;
@@ -18,6 +16,8 @@ use crate::unfinished::{left_by, remove_left_over, test_apart};
 use imago_copy::copy::CopyError;
 use imago_copy::target::Target;
 use imago_images::opening::Opening;
+use imago_img_files::failure::{Failure, Reason, Refusal};
+use imago_img_files::host::{FileKind, FileStatus, Host, LeftOver, Making};
 use std::io::{ErrorKind, Write};
 
 /// Writes the disk of an image to a raw file of that path. What the image's files have says what

@@ -10,10 +10,9 @@ ghost use Rattle.imago_images.specs.Formats.{IsFormatBy};
 ghost use Rattle.imago_images.specs.Images.{IsImageIn};
 ghost use Rattle.imago_images.specs.ImageFiles.{HasFiles};
 ghost use Rattle.imago_images.specs.declared.opening.OtherFiles.TheVariants as Others;
-ghost use Rattle.imago_img_parts.specs.Vetted.{IsVetted, IsHostRefusal, IsHostFailure};
+ghost use Rattle.imago_img_files.specs.Failures.{IsHostRefusal, IsHostFailure};
+ghost use Rattle.imago_img_checks.specs.Vetted.{IsVetted};
 
-use crate::failure::{Failure, OpenError, Reason};
-use crate::host::{FileStatus, Host};
 use imago_any_driver::any::AnyDriver;
 use imago_copy::layers::{LayerRun, LayerRuns};
 use imago_disk::disk::Disk;
@@ -22,6 +21,8 @@ use imago_disk::short::ShortFiles;
 use imago_drivers::drivers::FormatDriverInstance;
 use imago_images::file::PathStorage;
 use imago_images::opening::Opening;
+use imago_img_files::failure::{Failure, OpenError, Reason};
+use imago_img_files::host::{FileStatus, Host};
 use imago_storage::error::Error;
 use std::alloc::Global;
 

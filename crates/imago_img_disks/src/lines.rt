@@ -2,9 +2,9 @@
 //! Lines that tell where the bytes of a disk stand.
 ghost use Rattle.std.specs.Prelude.{◌≡◌, ◌≤◌, length, OnOk, option_map};
 ghost use Rattle.std.specs.Io.KnownBytes.{Appends};
-ghost use Rattle.imago_img_parts.specs.Lines.{line as line_text, object};
-ghost use Rattle.imago_img_parts.specs.Lines.{kind_word as kind_text};
-ghost use Rattle.imago_img_parts.specs.Lines.{kind_members as kind_members_text};
+ghost use Rattle.imago_img_disks.specs.Lines.{line as line_text, object};
+ghost use Rattle.imago_img_disks.specs.Lines.{kind_word as kind_text};
+ghost use Rattle.imago_img_disks.specs.Lines.{kind_members as kind_members_text};
 
 use crate::text::Text;
 use std::io::{self, Write};

@@ -2,12 +2,9 @@
 //! Where the bytes of an image's disk stand.
 ghost use Rattle.std.specs.Prelude.{◌≡◌, ◌<◌, ◌≤◌, if◌then◌else◌, OnOk, IfSome};
 ghost use Rattle.imago_disk.specs.Shows.{IsImage};
-ghost use Rattle.imago_img_parts.specs.declared.lines.LineKind.TheVariants as Kinds;
+ghost use Rattle.imago_img_disks.specs.declared.lines.LineKind.TheVariants as Kinds;
 
-use crate::failure::Failure;
-use crate::host::Host;
 use crate::image::{next_runs, not_read, opened};
-use crate::json::quoted;
 use crate::lines::{Line, LineKind, print_line, print_object};
 use imago_access::access::FormatAccess;
 use imago_copy::layers::{LayerRun, LayerRuns};
@@ -15,6 +12,9 @@ use imago_copy::runs::{Kind, Run};
 use imago_disk::disk::Disk;
 use imago_drivers::drivers::FormatDriverInstance;
 use imago_images::opening::Opening;
+use imago_img_files::failure::Failure;
+use imago_img_files::host::Host;
+use imago_img_files::json::quoted;
 use imago_storage::error::Error;
 use imago_storage::storage::Storage;
 use std::alloc::{AllocError, Global};

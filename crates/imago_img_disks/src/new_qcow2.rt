@@ -3,23 +3,39 @@
 ghost use Rattle.std.specs.Prelude.{◌≡◌, ℕ, [], OnOk, OnErr, IfOk, IfSome};
 ghost use Rattle.imago_qcow2_new.specs.Layout.{IsLayoutOf, file_length};
 ghost use Rattle.imago_qcow2_new.specs.Names.{HasNoNames};
-ghost use Rattle.imago_img_parts.specs.Files.{IsSoOnceCleared};
-ghost use Rattle.imago_img_parts.specs.LeftOvers.{IsApart};
-ghost use Rattle.imago_img_parts.specs.NewFiles.{IsCopyBy, IsFilledWith, IsNewlyMade, IsQcow2Copy};
+ghost use Rattle.imago_img_files.specs.Files.{IsSoOnceCleared};
+ghost use Rattle.imago_img_disks.specs.LeftOvers.{IsApart};
+ghost use Rattle.imago_img_disks.specs.NewFiles.{IsCopyBy, IsFilledWith, IsNewlyMade, IsQcow2Copy};
+ghost use Rattle.imago_img_disks.specs.NewFiles.{format_by};
 
 use crate::convert::{clear, end, test_place};
-use crate::failure::{Failure, Reason, Refusal};
-use crate::host::{Host, Making};
 use crate::image::{CHUNK, FileDisk, not_read, opened, readable_size};
 use crate::progress::Progress;
 use crate::short::warn;
 use imago_copy::target::Target;
 use imago_images::opening::Opening;
-use imago_qcow2_new::format::{Format, FormatError};
+use imago_img_files::failure::{Failure, Reason, Refusal};
+use imago_img_files::host::{Host, Making};
+use imago_qcow2_new::format::{Format, FormatError, Gaps, Version};
 use imago_qcow2_new::layout::Layout;
 use imago_qcow2_new::write::NewFileError;
+use imago_words::settings::{self, Settings};
 use std::alloc::Global;
 use std::io::Write;
+
+/// The format of a new qcow2 file, by what the command line says of it.
+pub fn new_format(settings: Settings) -> Format
+    ensures { result ≡ format_by settings }
+{
+    Format {
+        version: match settings.version {
+            settings::Version::Two => Version::Two,
+            settings::Version::Three => Version::Three,
+        },
+        cluster_bits: settings.cluster_bits,
+        gaps: Gaps::Absent,
+    }
+}
 
 /// How a qcow2 file is made of an image.
 #[derive(Clone, Copy)]

@@ -2,14 +2,14 @@
 //! An image's disk, written over a file that is there.
 ghost use Rattle.std.specs.Prelude.{◌≡◌, ◌≤◌, OnOk, OnErr, IfOk, IfSome, length};
 ghost use Rattle.imago_disk.specs.Shows.{HasSize};
-ghost use Rattle.imago_img_parts.specs.Disks.{IsConvertedOver, IsPartlyConvertedOver};
+ghost use Rattle.imago_img_disks.specs.Disks.{IsConvertedOver, IsPartlyConvertedOver};
 
 use crate::convert::fill_shown;
-use crate::failure::{Failure, Reason, Refusal};
-use crate::host::{FileKind, FileStatus, Host};
 use crate::image::{has_file, opened, readable_size};
 use crate::short::warn;
 use imago_images::opening::Opening;
+use imago_img_files::failure::{Failure, Reason, Refusal};
+use imago_img_files::host::{FileKind, FileStatus, Host};
 use std::io::{ErrorKind, Write};
 
 /// Writes the disk of an image over the first bytes of the file of that path, which has at least as

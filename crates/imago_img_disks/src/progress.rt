@@ -2,8 +2,8 @@
 //! How far a copy is.
 ghost use Rattle.std.specs.Prelude.{◌≡◌};
 
-use crate::host::Host;
 use imago_copy::target::Target;
+use imago_img_files::host::Host;
 use std::io;
 
 /// A target of which the host shows how much was put into it.

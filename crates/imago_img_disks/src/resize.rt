@@ -4,17 +4,17 @@ ghost use Rattle.std.specs.Prelude.{◌≡◌, ◌^◌, ◌≤◌, OnOk, OnErr, 
 ghost use Rattle.std.specs.Prelude.{option_map};
 ghost use Rattle.imago_images.specs.Formats.{IsFormatBy};
 ghost use Rattle.imago_images.specs.declared.format.ImageFormat.TheVariants.{Raw};
-ghost use Rattle.imago_img_parts.specs.Openings.{image_format};
-ghost use Rattle.imago_img_parts.specs.Resized.{IsImageResized, IsNewSize, IsSizeAsked};
-ghost use Rattle.imago_img_parts.specs.Resized.{size_after};
+ghost use Rattle.imago_img_files.specs.Openings.{image_format};
+ghost use Rattle.imago_img_disks.specs.Resized.{IsImageResized, IsNewSize, IsSizeAsked};
+ghost use Rattle.imago_img_disks.specs.Resized.{size_after};
 
 use crate::create::raw_length;
-use crate::failure::{Failure, Reason, Refusal};
-use crate::host::{FileKind, Host};
-use crate::opening::said_format;
 use imago_images::file::look_at;
 use imago_images::format::ImageFormat;
 use imago_images::layer::format_of;
+use imago_img_files::failure::{Failure, Reason, Refusal};
+use imago_img_files::host::{FileKind, Host};
+use imago_img_files::opening::said_format;
 use imago_words::command::{NewSize, Resize};
 use imago_words::format::Format;
 

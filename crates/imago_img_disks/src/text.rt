@@ -3,7 +3,7 @@
 ghost use Rattle.std.specs.Prelude.{◌≡◌, ◌+◌, ◌<◌, ◌≤◌, ◌++◌, [], length, OnOk};
 ghost use Rattle.std.specs.Fmt.{decimal};
 ghost use Rattle.std.specs.Io.KnownBytes.{Appends};
-ghost use Rattle.imago_img_parts.specs.Lines.{column};
+ghost use Rattle.imago_img_disks.specs.Lines.{column};
 
 use itoa::write_digits;
 use std::io::{self, Write};
@@ -28,7 +28,7 @@ pub(crate) struct Text {
 }
 
 impl Text {
-    ghost use Rattle.imago_img_parts.specs.Text.{text_of};
+    ghost use Rattle.imago_img_disks.specs.Text.{text_of};
 
     /// No text.
     pub(crate) fn new() -> Self

@@ -3,13 +3,11 @@
 ghost use Rattle.std.specs.Prelude.{◌≡◌, ◌<◌, ℕ, List, Some, OnOk, OnErr, IfOk, IfSome, false};
 ghost use Rattle.imago_images.specs.declared.files.FileStatus.{FileStatus};
 ghost use Rattle.imago_images.specs.Way.{identity};
-ghost use Rattle.imago_img_parts.specs.Files.{IsWithoutLeftOver};
+ghost use Rattle.imago_img_files.specs.Files.{IsWithoutLeftOver};
 ghost use Rattle.imago_disk.specs.Disk.{image_of};
 ghost use Rattle.imago_disk.specs.Files.{is_one_file};
-ghost use Rattle.imago_img_parts.specs.LeftOvers.{AreElsewhere, IsElsewhere};
+ghost use Rattle.imago_img_disks.specs.LeftOvers.{AreElsewhere, IsElsewhere};
 
-use crate::failure::{Failure, Reason, Refusal};
-use crate::host::{FileStatus, Host, LeftOver};
 use crate::image::{FileDisk, has_file};
 use imago_access::access::FormatAccess;
 use imago_any_driver::any::AnyDriver;
@@ -17,6 +15,8 @@ use imago_disk::disk::Disk;
 use imago_disk::named::is_same_file;
 use imago_drivers::drivers::FormatDriverInstance;
 use imago_images::file::PathStorage;
+use imago_img_files::failure::{Failure, Reason, Refusal};
+use imago_img_files::host::{FileStatus, Host, LeftOver};
 use imago_storage::storage::Storage;
 use std::io::ErrorKind;
 

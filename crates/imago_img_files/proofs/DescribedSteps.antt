@@ -13,7 +13,7 @@ use Rattle.imago_images.specs.declared.opening.OtherFiles.TheVariants as Others
 use Rattle.imago_images.specs.Alone.{NamesNoOther}
 use Rattle.imago_images.specs.Layers.{SaysBacking}
 use Rattle.imago_images.proofs.NameSteps.{passed_on}
-use Rattle.imago_img_parts.specs.Described.{IsDescribed}
+use Rattle.imago_img_files.specs.Described.{IsDescribed}
 
 -- bytes that begin as others name no file below if these don't
 pub below_kept : (bytes changed : List ℕ) → ((i : ℕ) → i < 24 → slice_index changed i ≡ slice_index bytes i)

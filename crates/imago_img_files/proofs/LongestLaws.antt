@@ -19,7 +19,7 @@ use Rattle.imago_images.specs.declared.format.ImageFormat.TheVariants.{Raw, Vmdk
 use Rattle.imago_images.specs.Extents.{size_read}
 use Rattle.imago_images.specs.Layers.{size_by}
 use Rattle.imago_images.specs.Longest.{IsOverLimit, IsSizeUnknown}
-use Rattle.imago_img_parts.specs.Openings.{HasSameHead, TooLongByHead}
+use Rattle.imago_img_files.specs.Openings.{HasSameHead, TooLongByHead}
 
 -- the size that a header says is one of its bytes
 head_byte : (bytes : List ℕ) (i : ℕ) → i < 112 → slice_index (bytes_at bytes 0 112) i ≡ slice_index bytes i

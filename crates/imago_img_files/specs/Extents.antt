@@ -4,7 +4,7 @@ use Rattle.std.specs.Prelude.{◌≡◌, ℕ, ◌+◌, ◌*◌, ◌≤◌, List,
 use Rattle.imago_file.specs.Names.{path_beside}
 use Rattle.imago_images.specs.declared.opening.OtherFiles.{OtherFiles}
 use Rattle.imago_images.specs.Gate.{IsLetThrough}
-use Rattle.imago_img_parts.specs.declared.extents.ExtentFile.{ExtentFile}
+use Rattle.imago_img_files.specs.declared.extents.ExtentFile.{ExtentFile}
 
 -- what isn't a file whose length is told
 abbrev pub HasNoLength : ExtentFile → Type 0

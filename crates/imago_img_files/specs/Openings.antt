@@ -1,6 +1,7 @@
 -- How the images that a command line names are opened, and what tells that a disk is too long.
 -- SPDX-License-Identifier: MIT
-use Rattle.std.specs.Prelude.{◌≡◌, ℕ, Bool, true, false, not, List, Option, Some, option_map, length}
+use Rattle.std.specs.Prelude.{◌≡◌, ℕ, ◌^◌, Bool, true, false, not, List, Option, Some, option_map}
+use Rattle.std.specs.Prelude.{length, unwrap_or}
 use Rattle.imago_plan.specs.PieceBytes.{bytes_at}
 use Rattle.imago_vmdk.specs.declared.line.Accepted.{Accepted}
 use Rattle.imago_words.specs.declared.command.Opening as Said
@@ -13,7 +14,11 @@ use Rattle.imago_images.specs.declared.opening.Opening.{Opening}
 use Rattle.imago_images.specs.declared.opening.OtherFiles.{OtherFiles}
 use Rattle.imago_images.specs.declared.opening.OtherFiles.TheVariants as Others
 use Rattle.imago_images.specs.Longest.{IsTooLong}
-use Rattle.imago_img_parts.specs.Checked.{most_memory}
+
+-- How many bytes of memory the tables of an image may take, and the reference counts and the uses of
+-- its clusters while it is checked: 256 MiB, if nothing else is said.
+abbrev pub most_memory : Option ℕ → ℕ
+most_memory said = unwrap_or said (2 ^ 28)
 
 -- the format of that name
 abbrev pub image_format : Format → ImageFormat

@@ -5,7 +5,7 @@ ghost use Rattle.std.specs.Prelude.{◌≡◌, ◌+◌, ◌*◌, ◌≤◌, ◌�
 ghost use Rattle.std.specs.Prelude.{length as count_of};
 ghost use Rattle.imago_images.specs.Gate.{IsLetThrough};
 ghost use Rattle.imago_images.specs.GateParts.{gate_host, gate_image, gate_files};
-ghost use Rattle.imago_img_parts.specs.Extents.{IsFound, HasNoLength, HoldsSectors};
+ghost use Rattle.imago_img_files.specs.Extents.{IsFound, HasNoLength, HoldsSectors};
 
 use crate::failure::Failure;
 use crate::host::Host;

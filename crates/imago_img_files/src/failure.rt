@@ -1,7 +1,7 @@
 // SPDX-License-Identifier: MIT
 //! Why a command isn't done.
 ghost use Rattle.std.specs.Prelude.{◌≡◌, MatchResult, IsErr};
-ghost use Rattle.imago_img_parts.specs.Vetted.{IsHostRefusal, IsHostFailure};
+ghost use Rattle.imago_img_files.specs.Failures.{IsHostRefusal, IsHostFailure};
 
 use imago_disk::cause::{Cause, ClusterFault, FaultyFile};
 use imago_disk::disk::Unread;

@@ -4,8 +4,8 @@ ghost use Rattle.std.specs.Prelude.{◌≡◌, ℕ, ◌<◌, ◌≤◌, [], List
 ghost use Rattle.std.specs.Prelude.{OnOk, OnErr, IfOk, IfSome, length, option_map, replicate};
 ghost use Rattle.std.specs.Prelude.{string_bytes};
 ghost use Rattle.imago_plan.specs.PieceBytes.{bytes_at};
-ghost use Rattle.imago_img_parts.specs.Files.{Around, begun, ended, with_file, IsMade, IsWhole};
-ghost use Rattle.imago_img_parts.specs.Files.{IsOverwritten, IsResized, IsWithoutLeftOver};
+ghost use Rattle.imago_img_files.specs.Files.{Around, begun, ended, with_file, IsMade, IsWhole};
+ghost use Rattle.imago_img_files.specs.Files.{IsOverwritten, IsResized, IsWithoutLeftOver};
 
 use crate::host::{Host, LeftOver, Making};
 use imago_copy::target::Target;

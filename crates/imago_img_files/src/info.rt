@@ -6,7 +6,7 @@ ghost use Rattle.imago_vmdk.specs.Line.{extent_with};
 ghost use Rattle.imago_vmdk.specs.Reading.{reading_of};
 ghost use Rattle.imago_images.specs.declared.opening.OtherFiles.TheVariants as Others;
 ghost use Rattle.imago_images.specs.HostBytes.{HasBytes};
-ghost use Rattle.imago_img_parts.specs.Described.{HasNoFile, HaveNoFiles, IsDescribed, NamesNothing};
+ghost use Rattle.imago_img_files.specs.Described.{HasNoFile, HaveNoFiles, IsDescribed, NamesNothing};
 
 use crate::chain::{Above, NamedBelow, Step, step_below};
 use crate::extents::{ExtentFile, bytes_of, find, tell_fault};

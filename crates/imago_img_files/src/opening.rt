@@ -1,16 +1,13 @@
 // SPDX-License-Identifier: MIT
 //! How the images that a command line names are opened.
 ghost use Rattle.std.specs.Prelude.{◌≡◌, option_map};
-ghost use Rattle.imago_img_parts.specs.NewFiles.{format_by};
-ghost use Rattle.imago_img_parts.specs.Openings.{how_by, image_format, others_by, TooLongByHead};
+ghost use Rattle.imago_img_files.specs.Openings.{how_by, image_format, others_by, TooLongByHead};
 
 use imago_images::format::ImageFormat;
 use imago_images::opening::{Opening, OtherFiles};
-use imago_qcow2_new::format::{Format as FileFormat, Gaps, Version};
 use imago_vmdk::line::Accepted;
 use imago_words::command::Opening as Said;
 use imago_words::format::Format;
-use imago_words::settings::{self, Settings};
 
 /// How many bytes of memory the tables of an image may take, and the reference counts and the uses
 /// of its clusters while it is checked, if nothing else is said: 256 MiB.
@@ -53,20 +50,6 @@ fn other_files(alone: bool, allow_outside: bool) -> OtherFiles
         (true, _) => OtherFiles::None,
         (false, true) => OtherFiles::Any,
         (false, false) => OtherFiles::InFolder,
-    }
-}
-
-/// The format of a new qcow2 file, by what the command line says of it.
-pub fn new_format(settings: Settings) -> FileFormat
-    ensures { result ≡ format_by settings }
-{
-    FileFormat {
-        version: match settings.version {
-            settings::Version::Two => Version::Two,
-            settings::Version::Three => Version::Three,
-        },
-        cluster_bits: settings.cluster_bits,
-        gaps: Gaps::Absent,
     }
 }
 

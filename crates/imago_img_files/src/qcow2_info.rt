@@ -9,7 +9,7 @@ ghost use Rattle.imago_qcow2.specs.Qcow2Image.{storage_in};
 ghost use Rattle.imago_images.specs.declared.opening.OtherFiles.TheVariants as Others;
 ghost use Rattle.imago_images.specs.HostBytes.{HasBytes};
 ghost use Rattle.imago_images.specs.Layers.{SaysBacking};
-ghost use Rattle.imago_img_parts.specs.Described.{NamesNoFile};
+ghost use Rattle.imago_img_files.specs.Described.{NamesNoFile};
 
 use crate::chain::{NamedBelow, full_path};
 use crate::extension::data_name;

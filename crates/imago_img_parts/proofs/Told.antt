@@ -5,12 +5,12 @@ use Rattle.std.proofs.lemmas.Bool.{eqb-true, eqb-false, false≢true, not-false,
 use Rattle.std.proofs.lemmas.Option.{IfSome_then}
 use Rattle.imago_images.specs.declared.format.ImageFormat.{ImageFormat}
 use Rattle.imago_images.specs.declared.opening.Opening.{Opening}
-use Rattle.imago_img_parts.specs.Disks.{AreCompared, is_left_out}
+use Rattle.imago_img_disks.specs.Disks.{AreCompared, is_left_out}
 use Rattle.imago_qcow2_check.specs.declared.fault.Verdict.{Verdict}
 use Rattle.imago_qcow2_check.specs.declared.fault.Verdict.TheVariants as V
 use Rattle.imago_img_parts.specs.declared.run.Outcome.{Outcome}
 use Rattle.imago_img_parts.specs.declared.run.Outcome.TheVariants.{Fine, Unlike, Checked, Vetted}
-use Rattle.imago_img_parts.specs.Checked.{IsChecked}
+use Rattle.imago_img_checks.specs.Checked.{IsChecked}
 use Rattle.imago_img_parts.specs.Commands.{AreToldApart, IsStatus, outcome_status}
 
 -- two disks have to have the same size, and haven't

@@ -19,18 +19,18 @@ use Rattle.imago_img_parts.specs.declared.question.Question.{Question}
 use Rattle.imago_img_parts.specs.declared.question.Question.TheVariants as Q
 use Rattle.imago_img_parts.specs.declared.run.Outcome.{Outcome}
 use Rattle.imago_img_parts.specs.declared.run.Outcome.TheVariants.{Fine, Unlike, Checked, Vetted}
-use Rattle.imago_img_parts.specs.Files.{Around, IsSoOnceCleared}
-use Rattle.imago_img_parts.specs.Disks.{IsConverted, IsConvertedOver, IsPartlyConvertedOver}
+use Rattle.imago_img_files.specs.Files.{Around, IsSoOnceCleared}
+use Rattle.imago_img_disks.specs.Disks.{IsConverted, IsConvertedOver, IsPartlyConvertedOver}
 use Rattle.imago_disk.specs.Shows.{IsImage}
-use Rattle.imago_img_parts.specs.Disks.{AreAlike, AreUnlike}
-use Rattle.imago_img_parts.specs.Measures.{IsMeasured}
-use Rattle.imago_img_parts.specs.NewFiles.{IsNewImage, IsNewlyMade, IsQcow2Copy, format_by}
-use Rattle.imago_img_parts.specs.Checked.{IsChecked}
-use Rattle.imago_img_parts.specs.Described.{IsDescribed}
-use Rattle.imago_img_parts.specs.LeftOvers.{IsApart, IsApartBelow}
-use Rattle.imago_img_parts.specs.Openings.{how_by, image_format}
-use Rattle.imago_img_parts.specs.Resized.{IsImageResized}
-use Rattle.imago_img_parts.specs.Vetted.{IsVetted}
+use Rattle.imago_img_disks.specs.Disks.{AreAlike, AreUnlike}
+use Rattle.imago_img_disks.specs.Measures.{IsMeasured}
+use Rattle.imago_img_disks.specs.NewFiles.{IsNewImage, IsNewlyMade, IsQcow2Copy, format_by}
+use Rattle.imago_img_checks.specs.Checked.{IsChecked}
+use Rattle.imago_img_files.specs.Described.{IsDescribed}
+use Rattle.imago_img_disks.specs.LeftOvers.{IsApart, IsApartBelow}
+use Rattle.imago_img_files.specs.Openings.{how_by, image_format}
+use Rattle.imago_img_disks.specs.Resized.{IsImageResized}
+use Rattle.imago_img_checks.specs.Vetted.{IsVetted}
 
 -- fine or not
 abbrev pub outcome_when : Bool → Outcome

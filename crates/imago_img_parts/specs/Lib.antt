@@ -1,17 +1,3 @@
 -- SPDX-License-Identifier: MIT
-pub mod Files
-pub mod Disks
-pub mod NewFiles
-pub mod Lines
-pub mod Text
-pub mod Checked
-pub mod Extents
-pub mod Openings
-pub mod Measures
-pub mod LeftOvers
-pub mod Resized
 pub mod Reaches
-pub mod Described
-pub mod Vetted
-pub mod VettedParts
 pub mod Commands

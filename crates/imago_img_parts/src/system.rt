@@ -2,9 +2,9 @@
 //! The system's files, where commands find them and make them.
 ghost use Rattle.std.specs.Prelude.{None};
 
-use crate::host::{FileKind, FileStatus, Files, Host, LeftOver, Making, UNFINISHED};
 use imago_copy::target::Target;
 use imago_disk::system::{SystemFiles, kind_of};
+use imago_img_files::host::{FileKind, FileStatus, Files, Host, LeftOver, Making, UNFINISHED};
 use std::alloc::Global;
 use std::fs::{self, File, Metadata, OpenOptions, Permissions};
 use std::io::{self, ErrorKind};

@@ -5,7 +5,7 @@ use Rattle.std.specs.Str.{bytes_eq}
 use Rattle.std.specs.String.{string_bytes}
 use Rattle.std.proofs.lemmas.Slice.Eq.{bytes_eq-Decides}
 use Rattle.imago_img_tests.specs.declared.memory_host.MemoryFile.{MemoryFile}
-use Rattle.imago_img_parts.specs.Files.{IsWithoutLeftOver}
+use Rattle.imago_img_files.specs.Files.{IsWithoutLeftOver}
 use Rattle.imago_img_tests.specs.MemoryFiles.{file_bytes, files_without, has_file, unfinished_path}
 
 module _ (gone : List ℕ) where

@@ -13,7 +13,7 @@ ghost use Rattle.std.specs.Prelude.{◌<◌};
 mod attributes;
 
 use crate::attributes::ByAttributes;
-use imago_img_parts::host::{Files, Host, Making};
+use imago_img_files::host::{Files, Host, Making};
 use imago_img_parts::system::System;
 use std::fs::{self, File};
 use std::io;

@@ -11,7 +11,7 @@ use crate::memory_host::{MemoryExisting, MemoryFile, MemoryHost, MemoryTarget, N
 use imago_copy::target::Target;
 use imago_file::host::MemoryFile as OpenFile;
 use imago_images::files::WritableFiles;
-use imago_img_parts::host::{FileKind, FileStatus, Files, Host, LeftOver, Making};
+use imago_img_files::host::{FileKind, FileStatus, Files, Host, LeftOver, Making};
 use std::alloc::{AllocError, Global};
 use std::cell::Cell;
 use std::io::{self, ErrorKind};

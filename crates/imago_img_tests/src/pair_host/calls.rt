@@ -3,14 +3,14 @@
 ghost use Rattle.std.specs.Prelude.{◌≡◌, ◌≤◌, ◌++◌, [], Some, true, false, drop, length};
 ghost use Rattle.std.specs.Prelude.{MatchOption, OnErr, OnOk, ℕ, List};
 ghost use Rattle.std.specs.String.{string_bytes};
-ghost use Rattle.imago_img_parts.specs.Files.{with_length};
+ghost use Rattle.imago_img_files.specs.Files.{with_length};
 ghost use Rattle.imago_img_tests.specs.Pairs.{pair_bytes, has_path};
 
 use crate::memory_host::calls::{read_padded, take_append};
 use crate::pair_host::{PairHost, PairTarget};
 use imago_copy::target::Target;
 use imago_file::host::MemoryFile as OpenFile;
-use imago_img_parts::host::{FileKind, FileStatus, Files, Host, LeftOver, Making};
+use imago_img_files::host::{FileKind, FileStatus, Files, Host, LeftOver, Making};
 use std::alloc::{AllocError, Global};
 use std::io::{self, ErrorKind};
 

@@ -4,7 +4,7 @@
 use super::set_up::{check_line, words_of};
 use crate::memory_host::{MemoryHost, Nature};
 use crate::pair_host::PairHost;
-use imago_img_parts::guarded::Confined;
+use imago_img_files::guarded::Confined;
 use imago_img_parts::run::run;
 use std::alloc::{AllocError, Global};
 use std::process::Abort;

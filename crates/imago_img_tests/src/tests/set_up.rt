@@ -2,8 +2,8 @@
 //! The files that the tests have, and how a command line is tried on them.
 
 use crate::memory_host::{MemoryHost, Nature};
-use imago_img_parts::guarded::Confined;
-use imago_img_parts::host::Files;
+use imago_img_files::guarded::Confined;
+use imago_img_files::host::Files;
 use imago_img_parts::run::run;
 use std::alloc::{AllocError, Global};
 use std::io::Write;

@@ -4,7 +4,7 @@
 use super::set_up::check_line;
 use crate::memory_host::{MemoryHost, Nature};
 use imago_copy::target::Target;
-use imago_img_parts::host::{Host, Making};
+use imago_img_files::host::{Host, Making};
 use std::alloc::{AllocError, Global};
 use std::io::ErrorKind;
 use std::process::Abort;

@@ -4,8 +4,8 @@
 use crate::memory_host::{MemoryHost, Nature};
 use imago_images::format::ImageFormat;
 use imago_images::opening::{Accepted, OtherFiles};
+use imago_img_files::host::Making;
 use imago_img_parts::commands::{Opening, compare_images, convert_image};
-use imago_img_parts::host::Making;
 use std::alloc::{AllocError, Global};
 use std::io;
 

@@ -3,8 +3,8 @@ use Rattle.std.proofs.Common.{◌≡◌, IfSome, map, length}
 use Rattle.std.specs.String.{string_bytes}
 use Rattle.imago_vmdk.specs.Line.{extent_with}
 use Rattle.imago_images.specs.GateParts.{gate_host, gate_image, gate_files}
-use Rattle.imago_img_parts.specs.Checked.{AreHeld}
-use Rattle.imago_img_parts.proofs.check_vmdk.check_extents.Given as goal
+use Rattle.imago_img_checks.specs.Checked.{AreHeld}
+use Rattle.imago_img_checks.proofs.check_vmdk.check_extents.Given as goal
 
 abbrev pub invariant-loop-extent : goal.invariant-loop-extent
 invariant-loop-extent g l = (gate_host l.gate ≡ l.fn.host) × (gate_image l.gate ≡ l.fn.path)

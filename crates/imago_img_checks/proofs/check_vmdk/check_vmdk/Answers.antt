@@ -5,9 +5,10 @@ use Rattle.std.proofs.lemmas.Result.{IfOk-weaker}
 use Rattle.imago_vmdk.specs.Line.{extent_with}
 use Rattle.imago_vmdk.specs.Reading.{reading_of}
 use Rattle.imago_images.proofs.PathSteps.{features_of, bytes_of}
-use Rattle.imago_img_parts.specs.Checked.{AreHeld, HasSoundExtents}
-use Rattle.imago_img_parts.proofs.FaultSteps.{of_file, sound_extents}
-use Rattle.imago_img_parts.proofs.check_vmdk.check_vmdk.Goals as goal
+use Rattle.imago_img_checks.specs.Checked.{AreHeld, HasSoundExtents}
+use Rattle.imago_img_files.proofs.FileSteps.{of_file}
+use Rattle.imago_img_checks.proofs.FaultSteps.{sound_extents}
+use Rattle.imago_img_checks.proofs.check_vmdk.check_vmdk.Goals as goal
 
 pub returns-in-Ok : goal.returns-in-Ok
 returns-in-Ok g c =

@@ -1,9 +1,9 @@
 -- SPDX-License-Identifier: MIT
 use Rattle.std.proofs.Common.{refl}
 use Rattle.imago_images.specs.declared.opening.OtherFiles.TheVariants as Others
-use Rattle.imago_img_parts.proofs.VetSteps.{decides_no}
-use Rattle.imago_img_parts.proofs.VetLaws.{told_not_host, another_host}
-use Rattle.imago_img_parts.proofs.vet.is_one_format.Goals as goal
+use Rattle.imago_img_checks.proofs.VetSteps.{decides_no}
+use Rattle.imago_img_checks.proofs.VetLaws.{told_not_host, another_host}
+use Rattle.imago_img_checks.proofs.vet.is_one_format.Goals as goal
 
 pub returns-in-Ok : goal.returns-in-Ok
 returns-in-Ok g c = λ bytes has. ((λ is. c.in-Ok.ensures.one bytes has), λ one. refl)

@@ -2,9 +2,9 @@
 use Rattle.std.proofs.Common.{IfOk, sym, subst}
 use Rattle.std.specs.Prelude.{Decides}
 use Rattle.imago_images.specs.declared.format.ImageFormat.{ImageFormat}
-use Rattle.imago_img_parts.specs.Vetted.{IsSafeAs}
-use Rattle.imago_img_parts.proofs.VetSteps.{decides_no}
-use Rattle.imago_img_parts.proofs.vet.is_safe_as.Goals as goal
+use Rattle.imago_img_checks.specs.Vetted.{IsSafeAs}
+use Rattle.imago_img_checks.proofs.VetSteps.{decides_no}
+use Rattle.imago_img_checks.proofs.vet.is_safe_as.Goals as goal
 
 -- no descriptor is safe
 pub returns-in_ok-tell_vmdk-in-Vmdk : goal.returns-in_ok-tell_vmdk-in-Vmdk

@@ -1,8 +1,8 @@
 -- SPDX-License-Identifier: MIT
 use Rattle.std.proofs.Common.{refl}
-use Rattle.imago_img_parts.proofs.VetSteps.{decides_no}
-use Rattle.imago_img_parts.proofs.VetLaws.{told_not_host, too_long_host}
-use Rattle.imago_img_parts.proofs.vet.is_short.Goals as goal
+use Rattle.imago_img_checks.proofs.VetSteps.{decides_no}
+use Rattle.imago_img_checks.proofs.VetLaws.{told_not_host, too_long_host}
+use Rattle.imago_img_checks.proofs.vet.is_short.Goals as goal
 
 pub returns-in-Ok : goal.returns-in-Ok
 returns-in-Ok g c = λ bytes has safe. ((λ is. c.in-Ok.ensures.within bytes has), λ short. refl)

@@ -1,9 +1,9 @@
 -- SPDX-License-Identifier: MIT
 use Rattle.std.specs.Prelude.{Decides}
 use Rattle.imago_images.proofs.PathSteps.{features_of, bytes_of}
-use Rattle.imago_img_parts.specs.Vetted.{IsVetted}
-use Rattle.imago_img_parts.proofs.FaultSteps.{of_file}
-use Rattle.imago_img_parts.proofs.vet.vet.Goals as goal
+use Rattle.imago_img_checks.specs.Vetted.{IsVetted}
+use Rattle.imago_img_files.proofs.FileSteps.{of_file}
+use Rattle.imago_img_checks.proofs.vet.vet.Goals as goal
 
 pub returns : goal.returns
 returns g c =

@@ -2,9 +2,9 @@
 use Rattle.std.proofs.Common.{IfSome, Option, subst}
 use Rattle.imago_images.specs.declared.format.ImageFormat.{ImageFormat}
 use Rattle.imago_images.specs.Formats.{IsFormatBy}
-use Rattle.imago_img_parts.proofs.VetSteps.{decides_no, not_decided}
-use Rattle.imago_img_parts.proofs.VetLaws.{safe_as, seen_as, short_as}
-use Rattle.imago_img_parts.proofs.vet.vet_file.Goals as goal
+use Rattle.imago_img_checks.proofs.VetSteps.{decides_no, not_decided}
+use Rattle.imago_img_checks.proofs.VetLaws.{safe_as, seen_as, short_as}
+use Rattle.imago_img_checks.proofs.vet.vet_file.Goals as goal
 
 pub returns-in_default : goal.returns-in_default
 returns-in_default g c = λ bytes has. decides_no

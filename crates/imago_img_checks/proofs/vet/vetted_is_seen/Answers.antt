@@ -1,6 +1,6 @@
 -- SPDX-License-Identifier: MIT
-use Rattle.imago_img_parts.proofs.VetLaws.{vetted_is_seen}
-use Rattle.imago_img_parts.proofs.vet.vetted_is_seen.Goals as goal
+use Rattle.imago_img_checks.proofs.VetLaws.{vetted_is_seen}
+use Rattle.imago_img_checks.proofs.vet.vetted_is_seen.Goals as goal
 
 pub returns : goal.returns
 returns c = vetted_is_seen

@@ -4,9 +4,9 @@ use Rattle.std.specs.Prelude.{Decides, IsTrue, None}
 use Rattle.std.proofs.lemmas.Result.{IfOk-weaker}
 use Rattle.imago_storage.specs.Bytes.{IsReadAt}
 use Rattle.imago_images.specs.Layers.{SaysBacking}
-use Rattle.imago_img_parts.specs.Vetted.{AreSafeTables, IsSafeQcow2}
-use Rattle.imago_img_parts.proofs.VetSteps.{header_moved, header_faulty, decides_as, decides_no}
-use Rattle.imago_img_parts.proofs.vet_qcow2.is_safe.Goals as goal
+use Rattle.imago_img_checks.specs.Vetted.{AreSafeTables, IsSafeQcow2}
+use Rattle.imago_img_checks.proofs.VetSteps.{header_moved, header_faulty, decides_as, decides_no}
+use Rattle.imago_img_checks.proofs.vet_qcow2.is_safe.Goals as goal
 
 pub returns-in-Ok : goal.returns-in-Ok
 returns-in-Ok g c = λ (told : IsTrue (g.S.Storage.features c.args.storage.now).tells_bytes).

@@ -1,6 +1,6 @@
 -- SPDX-License-Identifier: MIT
-use Rattle.imago_img_parts.proofs.VetSteps.{backing_moved, backing_back, decides_as, decides_no, not_decided}
-use Rattle.imago_img_parts.proofs.vet_qcow2.vet_header.Goals as goal
+use Rattle.imago_img_checks.proofs.VetSteps.{backing_moved, backing_back, decides_as, decides_no, not_decided}
+use Rattle.imago_img_checks.proofs.vet_qcow2.vet_header.Goals as goal
 
 pub returns-then-not-alone : goal.returns-then-not-alone
 returns-then-not-alone g c = λ told file read. decides_no (λ all.

@@ -4,8 +4,8 @@ use Rattle.std.specs.Prelude.{is_some}
 use Rattle.imago_storage.specs.Bytes.{IsReadAt}
 use Rattle.imago_file.specs.Contents.{told_bytes}
 use Rattle.imago_images.proofs.SignatureSteps.{was_done}
-use Rattle.imago_img_parts.proofs.SeenSteps.{seen_read}
-use Rattle.imago_img_parts.proofs.vet_seen.seen_by_qemu.Goals as goal
+use Rattle.imago_img_checks.proofs.SeenSteps.{seen_read}
+use Rattle.imago_img_checks.proofs.vet_seen.seen_by_qemu.Goals as goal
 
 pub returns-in-Ok : goal.returns-in-Ok
 returns-in-Ok g c = λ bytes has.

@@ -1,7 +1,7 @@
 -- SPDX-License-Identifier: MIT
 use Rattle.std.proofs.Common.{◌∙◌, sym, refl}
-use Rattle.imago_img_parts.proofs.VetSteps.{decides_no, not_decided}
-use Rattle.imago_img_parts.proofs.vet_seen.vet_seen.Goals as goal
+use Rattle.imago_img_checks.proofs.VetSteps.{decides_no, not_decided}
+use Rattle.imago_img_checks.proofs.vet_seen.vet_seen.Goals as goal
 
 pub returns-then-is_seen_as : goal.returns-then-is_seen_as
 returns-then-is_seen_as g c = λ bytes has. (

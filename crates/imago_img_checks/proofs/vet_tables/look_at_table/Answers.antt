@@ -4,9 +4,9 @@ use Rattle.std.specs.Prelude.{Decides, IsTrue}
 use Rattle.std.proofs.lemmas.Result.{IfOk-weaker}
 use Rattle.imago_storage.specs.Bytes.{IsReadAt}
 use Rattle.imago_qcow2.specs.Numbers.{be64}
-use Rattle.imago_img_parts.specs.VettedParts.{IsEntrySafe, IsTableSafe}
-use Rattle.imago_img_parts.proofs.VetSteps.{decides_as, table_read, table_written}
-use Rattle.imago_img_parts.proofs.vet_tables.look_at_table.Goals as goal
+use Rattle.imago_img_checks.specs.VettedParts.{IsEntrySafe, IsTableSafe}
+use Rattle.imago_img_checks.proofs.VetSteps.{decides_as, table_read, table_written}
+use Rattle.imago_img_checks.proofs.vet_tables.look_at_table.Goals as goal
 
 pub returns-in_ok-read-in-Stored-clause-safe : goal.returns-in_ok-read-in-Stored-clause-safe
 returns-in_ok-read-in-Stored-clause-safe g c = λ (told : IsTrue (g.S.Storage.features c.args.storage.now).tells_bytes).

@@ -8,11 +8,11 @@ use Rattle.imago_qcow2.specs.Header.{compression_of}
 use Rattle.imago_qcow2.specs.Entry.{version_of, cluster_length, l1_start, table_in_entry}
 use Rattle.imago_qcow2.specs.Opening.{table_count}
 use Rattle.imago_images.specs.Longest.{l1_length}
-use Rattle.imago_img_parts.specs.declared.vet_tables.Shape.{Shape}
-use Rattle.imago_img_parts.specs.Vetted.{AreSafeTables, named_tables}
-use Rattle.imago_img_parts.specs.VettedParts.{AreEntriesSafe}
-use Rattle.imago_img_parts.proofs.VetSteps.{cluster_moved, start_moved, count_moved, said_moved, version_moved, way_moved, tables_safe, tables_back, tables_taken, decides_no, decides_as}
-use Rattle.imago_img_parts.proofs.vet_tables.vet_tables.Goals as goal
+use Rattle.imago_img_checks.specs.declared.vet_tables.Shape.{Shape}
+use Rattle.imago_img_checks.specs.Vetted.{AreSafeTables, named_tables}
+use Rattle.imago_img_checks.specs.VettedParts.{AreEntriesSafe}
+use Rattle.imago_img_checks.proofs.VetSteps.{cluster_moved, start_moved, count_moved, said_moved, version_moved, way_moved, tables_safe, tables_back, tables_taken, decides_no, decides_as}
+use Rattle.imago_img_checks.proofs.vet_tables.vet_tables.Goals as goal
 
 -- a header that was read has no fault
 pub returns-in_default : goal.returns-in_default

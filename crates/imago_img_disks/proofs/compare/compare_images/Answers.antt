@@ -5,9 +5,9 @@ use Rattle.imago_file.specs.StorageParts.{faults_of}
 use Rattle.imago_disk.specs.Disk.{image_of, format_of}
 use Rattle.imago_images.proofs.PathSteps.{features_of, bytes_of}
 use Rattle.imago_images.specs.declared.format.ImageFormat.{ImageFormat}
-use Rattle.imago_img_parts.specs.Disks.{ArePathsOfOne}
-use Rattle.imago_img_parts.proofs.Disks.{compared_disks, compared_same}
-use Rattle.imago_img_parts.proofs.compare.compare_images.Goals as goal
+use Rattle.imago_img_disks.specs.Disks.{ArePathsOfOne}
+use Rattle.imago_img_disks.proofs.Disks.{compared_disks, compared_same}
+use Rattle.imago_img_disks.proofs.compare.compare_images.Goals as goal
 
 pub returns-in-Ok : goal.returns-in-Ok
 returns-in-Ok g c =

@@ -1,6 +1,6 @@
 -- SPDX-License-Identifier: MIT
-use Rattle.imago_img_parts.proofs.Disks.{whole_file, converted_file}
-use Rattle.imago_img_parts.proofs.convert.convert_beside.Goals as goal
+use Rattle.imago_img_disks.proofs.Disks.{whole_file, converted_file}
+use Rattle.imago_img_disks.proofs.convert.convert_beside.Goals as goal
 
 pub end-requires : goal.end-requires
 end-requires g c =

@@ -3,9 +3,9 @@ use Rattle.imago_any_driver.specs.AnyDriver.{view_over}
 use Rattle.imago_file.specs.StorageParts.{faults_of}
 use Rattle.imago_disk.specs.Disk.{image_of, format_of}
 use Rattle.imago_images.proofs.PathSteps.{features_of, bytes_of}
-use Rattle.imago_img_parts.proofs.Disks.{appended_disk}
-use Rattle.imago_img_parts.proofs.Overwritten.{nothing_appended, on_refusal, partly_appended}
-use Rattle.imago_img_parts.proofs.convert.fill.Goals as goal
+use Rattle.imago_img_disks.proofs.Disks.{appended_disk}
+use Rattle.imago_img_disks.proofs.Overwritten.{nothing_appended, on_refusal, partly_appended}
+use Rattle.imago_img_disks.proofs.convert.fill.Goals as goal
 
 pub returns-in-Ok-clause-filled : goal.returns-in-Ok-clause-filled
 returns-in-Ok-clause-filled g c =

@@ -2,9 +2,9 @@
 use Rattle.std.proofs.Common.{◌≡◌, replicate}
 use Rattle.std.specs.Int.{next_multiple_of}
 use Rattle.imago_words.specs.declared.settings.NewFormat.TheVariants as New
-use Rattle.imago_img_parts.specs.NewFiles.{IsEmptyFile, IsNewImage}
-use Rattle.imago_img_parts.proofs.NewFiles.{new_image, newly_made}
-use Rattle.imago_img_parts.proofs.create.create_beside.Goals as goal
+use Rattle.imago_img_disks.specs.NewFiles.{IsEmptyFile, IsNewImage}
+use Rattle.imago_img_disks.proofs.NewFiles.{new_image, newly_made}
+use Rattle.imago_img_disks.proofs.create.create_beside.Goals as goal
 
 pub returns-in-Raw-clause-created : goal.returns-in-Raw-clause-created
 returns-in-Raw-clause-created g c =

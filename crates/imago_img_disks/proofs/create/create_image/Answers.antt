@@ -1,8 +1,8 @@
 -- SPDX-License-Identifier: MIT
-use Rattle.imago_img_parts.specs.NewFiles.{IsNewImage, IsNewlyMade}
-use Rattle.imago_img_parts.specs.LeftOvers.{IsApartBelow}
-use Rattle.imago_img_parts.proofs.Cleared.{err_then, ok_then}
-use Rattle.imago_img_parts.proofs.create.create_image.Goals as goal
+use Rattle.imago_img_disks.specs.NewFiles.{IsNewImage, IsNewlyMade}
+use Rattle.imago_img_disks.specs.LeftOvers.{IsApartBelow}
+use Rattle.imago_img_disks.proofs.Cleared.{err_then, ok_then}
+use Rattle.imago_img_disks.proofs.create.create_image.Goals as goal
 
 pub returns-clause-created : goal.returns-clause-created
 returns-clause-created g c =

@@ -3,9 +3,9 @@ use Rattle.imago_drivers.specs.Place.{Byte}
 use Rattle.imago_words.specs.declared.settings.NewFormat.TheVariants as New
 use Rattle.imago_qcow2_new.specs.Image.{IsNewFile}
 use Rattle.imago_qcow2_new.specs.Layout.{file_length}
-use Rattle.imago_img_parts.specs.NewFiles.{IsEmptyFile}
-use Rattle.imago_img_parts.proofs.NewFiles.{anyway, empty_by, made_as, made_new, newly_made, whole_new}
-use Rattle.imago_img_parts.proofs.create.create_qcow2.Goals as goal
+use Rattle.imago_img_disks.specs.NewFiles.{IsEmptyFile}
+use Rattle.imago_img_disks.proofs.NewFiles.{anyway, empty_by, made_as, made_new, newly_made, whole_new}
+use Rattle.imago_img_disks.proofs.create.create_qcow2.Goals as goal
 
 pub end-requires : goal.end-requires
 end-requires g c =

@@ -1,8 +1,8 @@
 -- SPDX-License-Identifier: MIT
 use Rattle.std.proofs.Common.{◌≡◌, ℕ, OnOk, replicate, subst}
-use Rattle.imago_img_parts.specs.NewFiles.{IsNewlyMade}
-use Rattle.imago_img_parts.proofs.NewFiles.{anyway, made_new, whole_new}
-use Rattle.imago_img_parts.proofs.create.create_raw.Goals as goal
+use Rattle.imago_img_disks.specs.NewFiles.{IsNewlyMade}
+use Rattle.imago_img_disks.proofs.NewFiles.{anyway, made_new, whole_new}
+use Rattle.imago_img_disks.proofs.create.create_raw.Goals as goal
 
 pub end-requires : goal.end-requires
 end-requires g c =

@@ -1,7 +1,7 @@
 -- SPDX-License-Identifier: MIT
 use Rattle.imago_drivers.specs.Place.{Byte}
-use Rattle.imago_img_parts.proofs.NewFiles.{filled_new}
-use Rattle.imago_img_parts.proofs.create.put_new.Goals as goal
+use Rattle.imago_img_disks.proofs.NewFiles.{filled_new}
+use Rattle.imago_img_disks.proofs.create.put_new.Goals as goal
 
 pub returns-in-Ok-clause-put : goal.returns-in-Ok-clause-put
 returns-in-Ok-clause-put g c = λ empty.

@@ -1,6 +1,6 @@
 -- SPDX-License-Identifier: MIT
-use Rattle.imago_img_parts.proofs.NewFiles.{filled_zeroes}
-use Rattle.imago_img_parts.proofs.create.put_zeroes.Goals as goal
+use Rattle.imago_img_disks.proofs.NewFiles.{filled_zeroes}
+use Rattle.imago_img_disks.proofs.create.put_zeroes.Goals as goal
 
 pub returns-in-Ok-clause-put : goal.returns-in-Ok-clause-put
 returns-in-Ok-clause-put g c = λ empty.

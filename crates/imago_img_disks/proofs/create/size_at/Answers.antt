@@ -3,8 +3,8 @@ use Rattle.imago_any_driver.specs.AnyDriver.{view_over}
 use Rattle.imago_file.specs.StorageParts.{faults_of}
 use Rattle.imago_disk.specs.Disk.{image_of, format_of}
 use Rattle.imago_images.proofs.PathSteps.{features_of, bytes_of}
-use Rattle.imago_img_parts.proofs.Disks.{sized}
-use Rattle.imago_img_parts.proofs.create.size_at.Goals as goal
+use Rattle.imago_img_disks.proofs.Disks.{sized}
+use Rattle.imago_img_disks.proofs.create.size_at.Goals as goal
 
 pub returns : goal.returns
 returns g c =

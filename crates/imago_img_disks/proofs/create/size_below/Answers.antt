@@ -2,9 +2,9 @@
 use Rattle.std.proofs.Common.{◌∙◌, IfSome, Option, subst, sym}
 use Rattle.std.specs.Prelude.{IfOk}
 use Rattle.imago_words.specs.declared.command.Backing.{Backing}
-use Rattle.imago_img_parts.specs.NewFiles.{IsSizeBelow}
-use Rattle.imago_img_parts.proofs.NewFiles.{below_sized}
-use Rattle.imago_img_parts.proofs.create.size_below.Goals as goal
+use Rattle.imago_img_disks.specs.NewFiles.{IsSizeBelow}
+use Rattle.imago_img_disks.proofs.NewFiles.{below_sized}
+use Rattle.imago_img_disks.proofs.create.size_below.Goals as goal
 
 pub returns : goal.returns
 returns g c =

@@ -2,9 +2,9 @@
 use Rattle.std.proofs.Common.{◌∙◌, Option, OnOk, subst, sym}
 use Rattle.imago_images.specs.Way.{identity}
 use Rattle.imago_words.specs.declared.command.Backing.{Backing}
-use Rattle.imago_img_parts.specs.LeftOvers.{IsNoSourceBelow}
-use Rattle.imago_img_parts.proofs.Elsewhere.{no_source_below}
-use Rattle.imago_img_parts.proofs.create.test_removal.Goals as goal
+use Rattle.imago_img_disks.specs.LeftOvers.{IsNoSourceBelow}
+use Rattle.imago_img_disks.proofs.Elsewhere.{no_source_below}
+use Rattle.imago_img_disks.proofs.create.test_removal.Goals as goal
 
 pub returns : goal.returns
 returns g c =

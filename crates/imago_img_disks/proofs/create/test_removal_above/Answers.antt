@@ -4,8 +4,8 @@ use Rattle.imago_file.specs.StorageParts.{faults_of}
 use Rattle.imago_disk.specs.Disk.{image_of, format_of}
 use Rattle.imago_images.proofs.PathSteps.{features_of, bytes_of}
 use Rattle.imago_images.specs.Way.{identity}
-use Rattle.imago_img_parts.proofs.Elsewhere.{no_source}
-use Rattle.imago_img_parts.proofs.create.test_removal_above.Goals as goal
+use Rattle.imago_img_disks.proofs.Elsewhere.{no_source}
+use Rattle.imago_img_disks.proofs.create.test_removal_above.Goals as goal
 
 pub returns : goal.returns
 returns g c =

@@ -1,8 +1,8 @@
 -- SPDX-License-Identifier: MIT
 use Rattle.std.proofs.Common.{ℕ, IfSome, subst, sym}
-use Rattle.imago_img_parts.specs.NewFiles.{IsSizeBy}
-use Rattle.imago_img_parts.proofs.NewFiles.{sized_by, above_image, planned_so}
-use Rattle.imago_img_parts.proofs.create.tested_size.Goals as goal
+use Rattle.imago_img_disks.specs.NewFiles.{IsSizeBy}
+use Rattle.imago_img_disks.proofs.NewFiles.{sized_by, above_image, planned_so}
+use Rattle.imago_img_disks.proofs.create.tested_size.Goals as goal
 
 pub returns : goal.returns
 returns g c =

@@ -5,7 +5,7 @@ use Rattle.imago_access.specs.Target.{target}
 use Rattle.imago_copy.specs.declared.layers.LayerRun.{LayerRun}
 use Rattle.imago_copy.specs.LayerRuns.{image_of, at_of, IsNextLayerRun, AreLayerRuns}
 use Rattle.imago_copy.proofs.LayerSteps.{one_more}
-use Rattle.imago_img_parts.proofs.image.next_runs.Goals as goal
+use Rattle.imago_img_disks.proofs.image.next_runs.Goals as goal
 
 pub loop-runs-preserved : goal.loop-runs-preserved
 loop-runs-preserved g c =

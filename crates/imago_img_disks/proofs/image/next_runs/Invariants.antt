@@ -3,7 +3,7 @@ use Rattle.std.proofs.Common.{◌≡◌, ◌+◌, ◌-◌, ◌≤◌, length}
 use Rattle.imago_access.specs.Chain.{driver}
 use Rattle.imago_access.specs.Target.{target}
 use Rattle.imago_copy.specs.LayerRuns.{image_of, at_of, AreReady, AreLayerRuns}
-use Rattle.imago_img_parts.proofs.image.next_runs.Given as goal
+use Rattle.imago_img_disks.proofs.image.next_runs.Given as goal
 
 abbrev pub invariant-loop-runs : goal.invariant-loop-runs
 invariant-loop-runs g l =

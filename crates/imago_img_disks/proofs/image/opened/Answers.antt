@@ -1,7 +1,7 @@
 -- SPDX-License-Identifier: MIT
-use Rattle.imago_img_parts.proofs.Opened.{given}
-use Rattle.imago_img_parts.proofs.VetLaws.{opened_vetted}
-use Rattle.imago_img_parts.proofs.image.opened.Goals as goal
+use Rattle.imago_img_disks.proofs.Opened.{given}
+use Rattle.imago_img_checks.proofs.VetLaws.{opened_vetted}
+use Rattle.imago_img_disks.proofs.image.opened.Goals as goal
 
 pub returns-clause-format : goal.returns-clause-format
 returns-clause-format g c =

@@ -2,10 +2,10 @@
 use Rattle.std.proofs.Common.{◌≡◌, ◌++◌, List, [], ℕ, OnOk, codes, subst, ap, ◌∙◌}
 use Rattle.std.specs.Fmt.{decimal}
 use Rattle.std.specs.Io.KnownBytes.{Appends}
-use Rattle.imago_img_parts.specs.Lines.{kind_members, members_in}
-use Rattle.imago_img_parts.specs.Text.{text_of}
-use Rattle.imago_img_parts.proofs.TextSteps.{behind, seven_parts, three_before}
-use Rattle.imago_img_parts.proofs.lines.print_object.Goals as goal
+use Rattle.imago_img_disks.specs.Lines.{kind_members, members_in}
+use Rattle.imago_img_disks.specs.Text.{text_of}
+use Rattle.imago_img_disks.proofs.TextSteps.{behind, seven_parts, three_before}
+use Rattle.imago_img_disks.proofs.lines.print_object.Goals as goal
 
 pub returns-in_default : goal.returns-in_default
 returns-in_default g c =

@@ -3,9 +3,9 @@ use Rattle.imago_any_driver.specs.AnyDriver.{view_over}
 use Rattle.imago_file.specs.StorageParts.{faults_of}
 use Rattle.imago_disk.specs.Disk.{image_of, format_of}
 use Rattle.imago_images.proofs.PathSteps.{features_of, bytes_of}
-use Rattle.imago_img_parts.proofs.Disks.{image_there}
-use Rattle.imago_img_parts.proofs.NewFiles.{always}
-use Rattle.imago_img_parts.proofs.map.map_image.Goals as goal
+use Rattle.imago_img_disks.proofs.Disks.{image_there}
+use Rattle.imago_img_disks.proofs.NewFiles.{always}
+use Rattle.imago_img_disks.proofs.map.map_image.Goals as goal
 
 pub returns-in-Ok : goal.returns-in-Ok
 returns-in-Ok g c =

@@ -2,7 +2,7 @@
 use Rattle.std.proofs.Common.{◌≡◌, ◌+◌, ◌-◌, length}
 use Rattle.imago_access.specs.Chain.{driver}
 use Rattle.imago_copy.specs.LayerRuns.{image_of, at_of, AreReady}
-use Rattle.imago_img_parts.proofs.map.print_disk.Given as goal
+use Rattle.imago_img_disks.proofs.map.print_disk.Given as goal
 
 abbrev pub invariant-loop-runs : goal.invariant-loop-runs
 invariant-loop-runs g l =

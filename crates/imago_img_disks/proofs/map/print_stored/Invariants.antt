@@ -1,6 +1,6 @@
 -- SPDX-License-Identifier: MIT
 use Rattle.std.proofs.Common.{◌-◌, ◌≤◌}
-use Rattle.imago_img_parts.proofs.map.print_stored.Given as goal
+use Rattle.imago_img_disks.proofs.map.print_stored.Given as goal
 
 abbrev pub invariant-loop-done : goal.invariant-loop-done
 invariant-loop-done g l = l.done ≤ l.run.count

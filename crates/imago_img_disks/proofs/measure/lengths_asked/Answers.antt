@@ -1,8 +1,8 @@
 -- SPDX-License-Identifier: MIT
 use Rattle.imago_words.specs.declared.command.Measured.TheVariants as M
-use Rattle.imago_img_parts.proofs.NewFiles.{always}
-use Rattle.imago_img_parts.proofs.Measures.{measured_disk, nothing_said}
-use Rattle.imago_img_parts.proofs.measure.lengths_asked.Goals as goal
+use Rattle.imago_img_disks.proofs.NewFiles.{always}
+use Rattle.imago_img_disks.proofs.Measures.{measured_disk, nothing_said}
+use Rattle.imago_img_disks.proofs.measure.lengths_asked.Goals as goal
 
 pub returns-in-File : goal.returns-in-File
 returns-in-File g c =

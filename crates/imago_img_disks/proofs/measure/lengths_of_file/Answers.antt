@@ -3,10 +3,10 @@ use Rattle.imago_any_driver.specs.AnyDriver.{view_over}
 use Rattle.imago_file.specs.StorageParts.{faults_of}
 use Rattle.imago_disk.specs.Disk.{image_of, format_of}
 use Rattle.imago_images.proofs.PathSteps.{features_of, bytes_of}
-use Rattle.imago_img_parts.specs.Openings.{how_by}
-use Rattle.imago_img_parts.proofs.Disks.{image_there, image_as_said}
-use Rattle.imago_img_parts.proofs.NewFiles.{always}
-use Rattle.imago_img_parts.proofs.measure.lengths_of_file.Goals as goal
+use Rattle.imago_img_files.specs.Openings.{how_by}
+use Rattle.imago_img_disks.proofs.Disks.{image_there, image_as_said}
+use Rattle.imago_img_disks.proofs.NewFiles.{always}
+use Rattle.imago_img_disks.proofs.measure.lengths_of_file.Goals as goal
 
 pub returns : goal.returns
 returns g c =

@@ -1,8 +1,8 @@
 -- SPDX-License-Identifier: MIT
 use Rattle.imago_qcow2_new.specs.Layout.{file_length}
-use Rattle.imago_img_parts.specs.NewFiles.{IsCopyBy, IsQcow2Copy}
-use Rattle.imago_img_parts.proofs.NewFiles.{copy_in, made_as, made_new, newly_made, whole_new}
-use Rattle.imago_img_parts.proofs.new_qcow2.convert_beside.Goals as goal
+use Rattle.imago_img_disks.specs.NewFiles.{IsCopyBy, IsQcow2Copy}
+use Rattle.imago_img_disks.proofs.NewFiles.{copy_in, made_as, made_new, newly_made, whole_new}
+use Rattle.imago_img_disks.proofs.new_qcow2.convert_beside.Goals as goal
 
 pub end-requires : goal.end-requires
 end-requires g c =

@@ -1,8 +1,8 @@
 -- SPDX-License-Identifier: MIT
-use Rattle.imago_img_parts.specs.NewFiles.{IsNewlyMade, IsQcow2Copy}
-use Rattle.imago_img_parts.specs.LeftOvers.{IsApart}
-use Rattle.imago_img_parts.proofs.Cleared.{err_then, ok_then}
-use Rattle.imago_img_parts.proofs.new_qcow2.convert_to_qcow2.Goals as goal
+use Rattle.imago_img_disks.specs.NewFiles.{IsNewlyMade, IsQcow2Copy}
+use Rattle.imago_img_disks.specs.LeftOvers.{IsApart}
+use Rattle.imago_img_disks.proofs.Cleared.{err_then, ok_then}
+use Rattle.imago_img_disks.proofs.new_qcow2.convert_to_qcow2.Goals as goal
 
 pub returns-clause-converted : goal.returns-clause-converted
 returns-clause-converted g c =

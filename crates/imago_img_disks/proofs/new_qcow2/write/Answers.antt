@@ -3,8 +3,8 @@ use Rattle.imago_any_driver.specs.AnyDriver.{view_over}
 use Rattle.imago_file.specs.StorageParts.{faults_of}
 use Rattle.imago_disk.specs.Disk.{image_of, format_of}
 use Rattle.imago_images.proofs.PathSteps.{features_of, bytes_of}
-use Rattle.imago_img_parts.proofs.NewFiles.{copied}
-use Rattle.imago_img_parts.proofs.new_qcow2.write.Goals as goal
+use Rattle.imago_img_disks.proofs.NewFiles.{copied}
+use Rattle.imago_img_disks.proofs.new_qcow2.write.Goals as goal
 
 pub returns-in-Ok-clause-written : goal.returns-in-Ok-clause-written
 returns-in-Ok-clause-written g c = λ empty.

@@ -1,8 +1,8 @@
 -- SPDX-License-Identifier: MIT
 use Rattle.std.proofs.Common.{◌≡◌, List, ℕ, true, length}
-use Rattle.imago_img_parts.specs.Files.{Around}
-use Rattle.imago_img_parts.proofs.Overwritten.{partly_over, still_there, written_over}
-use Rattle.imago_img_parts.proofs.overwrite.overwrite.Goals as goal
+use Rattle.imago_img_files.specs.Files.{Around}
+use Rattle.imago_img_disks.proofs.Overwritten.{partly_over, still_there, written_over}
+use Rattle.imago_img_disks.proofs.overwrite.overwrite.Goals as goal
 
 pub close_existing-requires : goal.close_existing-requires
 close_existing-requires g c =

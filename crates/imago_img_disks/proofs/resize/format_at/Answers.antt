@@ -3,8 +3,8 @@ use Rattle.std.proofs.Common.{IfSome, Option, subst}
 use Rattle.imago_images.proofs.PathSteps.{features_of, bytes_of}
 use Rattle.imago_images.specs.declared.format.ImageFormat.{ImageFormat}
 use Rattle.imago_images.specs.Formats.{IsFormatBy}
-use Rattle.imago_img_parts.proofs.FaultSteps.{of_file}
-use Rattle.imago_img_parts.proofs.resize.format_at.Goals as goal
+use Rattle.imago_img_files.proofs.FileSteps.{of_file}
+use Rattle.imago_img_disks.proofs.resize.format_at.Goals as goal
 
 pub returns : goal.returns
 returns g c =

@@ -1,6 +1,6 @@
 -- SPDX-License-Identifier: MIT
-use Rattle.imago_img_parts.proofs.Resizes.{size_for}
-use Rattle.imago_img_parts.proofs.resize.new_size.Goals as goal
+use Rattle.imago_img_disks.proofs.Resizes.{size_for}
+use Rattle.imago_img_disks.proofs.resize.new_size.Goals as goal
 
 pub returns-in-Ok : goal.returns-in-Ok
 returns-in-Ok g c =

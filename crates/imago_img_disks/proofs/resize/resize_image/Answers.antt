@@ -1,6 +1,6 @@
 -- SPDX-License-Identifier: MIT
-use Rattle.imago_img_parts.proofs.Resizes.{image_resized}
-use Rattle.imago_img_parts.proofs.resize.resize_image.Goals as goal
+use Rattle.imago_img_disks.proofs.Resizes.{image_resized}
+use Rattle.imago_img_disks.proofs.resize.resize_image.Goals as goal
 
 pub returns-in-Ok-clause-resized : goal.returns-in-Ok-clause-resized
 returns-in-Ok-clause-resized g c =

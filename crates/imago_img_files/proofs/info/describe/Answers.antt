@@ -3,7 +3,7 @@ use Rattle.std.proofs.Common.{◌≡◌, ◌∙◌, ℕ, List, Ok, map, subst}
 use Rattle.std.specs.String.{string_bytes}
 use Rattle.imago_vmdk.specs.Line.{extent_with}
 use Rattle.imago_vmdk.specs.Reading.{reading_of}
-use Rattle.imago_img_parts.proofs.info.describe.Goals as goal
+use Rattle.imago_img_files.proofs.info.describe.Goals as goal
 
 pub returns-in-Ok : goal.returns-in-Ok
 returns-in-Ok g c = λ bytes has.

@@ -1,8 +1,8 @@
 -- SPDX-License-Identifier: MIT
 use Rattle.imago_images.proofs.PathSteps.{features_of, bytes_of}
-use Rattle.imago_img_parts.specs.Described.{IsDescribed}
-use Rattle.imago_img_parts.proofs.FaultSteps.{of_file}
-use Rattle.imago_img_parts.proofs.info.info.Goals as goal
+use Rattle.imago_img_files.specs.Described.{IsDescribed}
+use Rattle.imago_img_files.proofs.FileSteps.{of_file}
+use Rattle.imago_img_files.proofs.info.info.Goals as goal
 
 pub returns : goal.returns
 returns g c =

@@ -2,8 +2,8 @@
 use Rattle.std.proofs.Common.{map, length}
 use Rattle.std.specs.String.{string_bytes}
 use Rattle.imago_vmdk.specs.Line.{extent_with}
-use Rattle.imago_img_parts.specs.Described.{HaveNoFiles}
-use Rattle.imago_img_parts.proofs.info.refuse_any_file.Given as goal
+use Rattle.imago_img_files.specs.Described.{HaveNoFiles}
+use Rattle.imago_img_files.proofs.info.refuse_any_file.Given as goal
 
 abbrev pub invariant-loop-extent : goal.invariant-loop-extent
 invariant-loop-extent l =

@@ -4,8 +4,8 @@ use Rattle.std.specs.String.{string_bytes}
 use Rattle.imago_vmdk.specs.declared.line.Extent.{Extent}
 use Rattle.imago_vmdk.specs.Line.{extent_with}
 use Rattle.imago_images.specs.declared.format.ImageFormat.{ImageFormat}
-use Rattle.imago_img_parts.specs.Described.{HaveNoFiles, NamesNothing}
-use Rattle.imago_img_parts.proofs.info.report_as.Goals as goal
+use Rattle.imago_img_files.specs.Described.{HaveNoFiles, NamesNothing}
+use Rattle.imago_img_files.proofs.info.report_as.Goals as goal
 
 pub returns-in-Raw : goal.returns-in-Raw
 returns-in-Raw g c = λ bytes has none.

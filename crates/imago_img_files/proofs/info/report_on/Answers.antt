@@ -1,5 +1,5 @@
 -- SPDX-License-Identifier: MIT
-use Rattle.imago_img_parts.proofs.info.report_on.Goals as goal
+use Rattle.imago_img_files.proofs.info.report_on.Goals as goal
 
 pub returns : goal.returns
 returns g c = λ bytes has. record {

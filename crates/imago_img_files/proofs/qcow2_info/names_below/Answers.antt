@@ -1,7 +1,7 @@
 -- SPDX-License-Identifier: MIT
 use Rattle.std.proofs.Common.{rules, ◌≡◌, Ok}
-use Rattle.imago_img_parts.proofs.DescribedSteps.{below_of}
-use Rattle.imago_img_parts.proofs.qcow2_info.names_below.Goals as goal
+use Rattle.imago_img_files.proofs.DescribedSteps.{below_of}
+use Rattle.imago_img_files.proofs.qcow2_info.names_below.Goals as goal
 
 pub returns : goal.returns
 returns c = λ none.

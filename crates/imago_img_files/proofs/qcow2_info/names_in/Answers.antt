@@ -1,8 +1,8 @@
 -- SPDX-License-Identifier: MIT
 use Rattle.std.proofs.Common.{◌≡◌, ◌≤◌, ◌∙◌, sym, length, arith}
 use Rattle.imago_storage.specs.Bytes.{IsReadAt}
-use Rattle.imago_img_parts.proofs.DescribedSteps.{below_read, features_read}
-use Rattle.imago_img_parts.proofs.qcow2_info.names_in.Goals as goal
+use Rattle.imago_img_files.proofs.DescribedSteps.{below_read, features_read}
+use Rattle.imago_img_files.proofs.qcow2_info.names_in.Goals as goal
 
 pub returns : goal.returns
 returns g c = λ bytes has none.

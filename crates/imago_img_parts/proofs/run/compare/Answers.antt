@@ -1,6 +1,6 @@
 -- SPDX-License-Identifier: MIT
 use Rattle.std.specs.Prelude.{option_map}
-use Rattle.imago_img_parts.specs.Openings.{how_by, image_format}
+use Rattle.imago_img_files.specs.Openings.{how_by, image_format}
 use Rattle.imago_img_parts.proofs.Told.{told_apart, told_by}
 use Rattle.imago_img_parts.proofs.run.compare.Goals as goal
 

@@ -1,5 +1,5 @@
 -- SPDX-License-Identifier: MIT
-use Rattle.imago_img_parts.proofs.NewFiles.{converted_raw, converted_qcow2}
+use Rattle.imago_img_parts.proofs.ConvertedSteps.{converted_raw, converted_qcow2}
 use Rattle.imago_img_parts.proofs.run.convert_newly.Goals as goal
 
 pub returns-in-Raw-clause-converted : goal.returns-in-Raw-clause-converted

@@ -1,7 +1,7 @@
 -- SPDX-License-Identifier: MIT
 use Rattle.std.proofs.Common.{refl}
-use Rattle.imago_img_parts.specs.Openings.{how_by}
-use Rattle.imago_img_parts.proofs.DescribedSteps.{described_as_said}
+use Rattle.imago_img_files.specs.Openings.{how_by}
+use Rattle.imago_img_files.proofs.DescribedSteps.{described_as_said}
 use Rattle.imago_img_parts.proofs.run.describe.Goals as goal
 
 pub returns : goal.returns

@@ -1,7 +1,7 @@
 -- SPDX-License-Identifier: MIT
 use Rattle.std.proofs.Common.{refl}
-use Rattle.imago_img_parts.specs.Openings.{how_by}
-use Rattle.imago_img_parts.proofs.Disks.{image_as_said}
+use Rattle.imago_img_files.specs.Openings.{how_by}
+use Rattle.imago_img_disks.proofs.Disks.{image_as_said}
 use Rattle.imago_img_parts.proofs.run.list.Goals as goal
 
 pub returns : goal.returns

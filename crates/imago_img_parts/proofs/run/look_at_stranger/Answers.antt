@@ -1,7 +1,7 @@
 -- SPDX-License-Identifier: MIT
 use Rattle.std.proofs.Common.{refl}
-use Rattle.imago_img_parts.specs.Openings.{how_by}
-use Rattle.imago_img_parts.proofs.VetSteps.{vetted_as_said}
+use Rattle.imago_img_files.specs.Openings.{how_by}
+use Rattle.imago_img_checks.proofs.VetSteps.{vetted_as_said}
 use Rattle.imago_img_parts.proofs.run.look_at_stranger.Goals as goal
 
 pub returns : goal.returns

@@ -1,6 +1,6 @@
 -- SPDX-License-Identifier: MIT
 use Rattle.std.proofs.Common.{refl}
-use Rattle.imago_img_parts.specs.Openings.{how_by}
+use Rattle.imago_img_files.specs.Openings.{how_by}
 use Rattle.imago_img_parts.proofs.Told.{checked_as_said}
 use Rattle.imago_img_parts.proofs.run.look_for_faults.Goals as goal
 

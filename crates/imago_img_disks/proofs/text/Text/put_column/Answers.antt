@@ -3,9 +3,9 @@ use Rattle.std.proofs.Common.{rules, arith, length, ap, ◌∙◌, ◌≡◌, �
 use Rattle.std.specs.Fmt.{decimal}
 use Rattle.std.proofs.lemmas.Fmt.{length-decimal-le}
 use Rattle.std.proofs.lemmas.Slice.{take-put_mid}
-use Rattle.imago_img_parts.specs.Lines.{column}
-use Rattle.imago_img_parts.proofs.TextSteps.{column_of, column_length}
-use Rattle.imago_img_parts.proofs.text.Text.put_column.Goals as goal
+use Rattle.imago_img_disks.specs.Lines.{column}
+use Rattle.imago_img_disks.proofs.TextSteps.{column_of, column_length}
+use Rattle.imago_img_disks.proofs.text.Text.put_column.Goals as goal
 
 pub write_digits-start-requires : goal.write_digits-start-requires
 write_digits-start-requires c = search (rules, length-decimal-le 20)

@@ -3,8 +3,8 @@ use Rattle.std.proofs.Common.{rules, arith, ap, ◌∙◌, ◌≡◌, ◌-◌, �
 use Rattle.std.specs.Fmt.{decimal}
 use Rattle.std.proofs.lemmas.Fmt.{length-decimal-le}
 use Rattle.std.proofs.lemmas.List.{length-take}
-use Rattle.imago_img_parts.proofs.TextSteps.{digits_of, first_of_mid}
-use Rattle.imago_img_parts.proofs.text.Text.put_number.Goals as goal
+use Rattle.imago_img_disks.proofs.TextSteps.{digits_of, first_of_mid}
+use Rattle.imago_img_disks.proofs.text.Text.put_number.Goals as goal
 
 pub write_digits-start-requires : goal.write_digits-start-requires
 write_digits-start-requires c = search (rules, length-decimal-le 20)

@@ -1,0 +1,5 @@
+-- SPDX-License-Identifier: MIT
+pub mod FaultSteps
+pub mod VetSteps
+mod SeenSteps
+pub mod VetLaws

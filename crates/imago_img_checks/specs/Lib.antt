@@ -1,0 +1,4 @@
+-- SPDX-License-Identifier: MIT
+pub mod Checked
+pub mod Vetted
+pub mod VettedParts

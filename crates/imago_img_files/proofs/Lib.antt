@@ -1,0 +1,4 @@
+-- SPDX-License-Identifier: MIT
+pub mod FileSteps
+mod LongestLaws
+pub mod DescribedSteps
