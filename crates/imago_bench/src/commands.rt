@@ -6,7 +6,7 @@ use crate::digest::Digest;
 use crate::files::Files;
 use crate::qcow2::{Pattern, Qcow2File, Shape, qcow2_file};
 use crate::random::Random;
-use imago_img_parts::guarded::Confined;
+use imago_img_files::guarded::Confined;
 use imago_img_parts::run::run;
 use std::alloc::Global;
 use std::mem;
