@@ -1,10 +1,12 @@
 // SPDX-License-Identifier: MIT
-//! A host whose files are in memory: what it holds. All that it does stands in `calls`, for tests
-//! alone; the definitions of its files, in `specs/`, name these types.
+//! A host whose files are in memory: what it holds. What it does stands in `calls`, for tests alone;
+//! the definitions of its files, in `specs/`, name these types.
+ghost use Rattle.std.specs.Prelude.{◌≡◌, [], Some, true, false, IfOk, MatchResult};
 
 use crate::asked::Asked;
 use std::alloc::Global;
 use std::cell::Cell;
+use std::io::{self, ErrorKind};
 
 #[cfg(test)]
 pub mod calls;
@@ -70,3 +72,26 @@ pub struct MemoryTarget {
 /// A file in memory is never written over.
 #[derive(Drop)]
 pub struct MemoryExisting;
+
+impl MemoryHost {
+    ghost use Rattle.imago_img_tests.specs.MemoryFiles.{file_bytes, first_of, has_file};
+
+    /// The first file of that path.
+    fn file(&self, path: &str) -> io::Result<&MemoryFile>
+        ensures bytes { MatchResult result
+            (λ f. f.now.bytes.items ≡ file_bytes self.now.files.items path.now)
+            (λ _. file_bytes self.now.files.items path.now ≡ []) }
+        ensures first { IfOk result
+            (λ f. first_of self.now.files.items path.now ≡ Some f.now) }
+        ensures there { MatchResult result
+            (λ _. has_file self.now.files.items path.now ≡ true)
+            (λ _. has_file self.now.files.items path.now ≡ false) }
+    {
+        for file in &self.files {
+            if file.path.as_str() == path {
+                return Ok(file);
+            }
+        }
+        Err(io::Error::from(ErrorKind::NotFound))
+    }
+}

@@ -32,8 +32,7 @@ impl Nature {
 }
 
 impl MemoryHost {
-    ghost use Rattle.imago_img_tests.specs.MemoryFiles.{file_bytes, file_status, first_of};
-    ghost use Rattle.imago_img_tests.specs.MemoryFiles.{has_file};
+    ghost use Rattle.imago_img_tests.specs.MemoryFiles.{file_bytes, file_status};
 
     /// No files. Something may be put into a new one that many times, and then it gets its path or
     /// doesn't.
@@ -115,25 +114,6 @@ impl MemoryHost {
             Ok(file) => Some(&file.bytes),
             Err(_) => None,
         }
-    }
-
-    /// The first file of that path.
-    fn file(&self, path: &str) -> io::Result<&MemoryFile>
-        ensures bytes { MatchResult result
-            (λ f. f.now.bytes.items ≡ file_bytes self.now.files.items path.now)
-            (λ _. file_bytes self.now.files.items path.now ≡ []) }
-        ensures first { IfOk result
-            (λ f. first_of self.now.files.items path.now ≡ Some f.now) }
-        ensures there { MatchResult result
-            (λ _. has_file self.now.files.items path.now ≡ true)
-            (λ _. has_file self.now.files.items path.now ≡ false) }
-    {
-        for file in &self.files {
-            if file.path.as_str() == path {
-                return Ok(file);
-            }
-        }
-        Err(io::Error::from(ErrorKind::NotFound))
     }
 
     /// What the first file of that path is by itself.

@@ -1,7 +1,7 @@
 -- SPDX-License-Identifier: MIT
 use Rattle.std.proofs.Common.{◌≡◌, drop}
 use Rattle.imago_img_tests.specs.MemoryFiles.{file_bytes, first_of, has_file}
-use Rattle.imago_img_tests.proofs.memory_host.calls.MemoryHost.file.Given as goal
+use Rattle.imago_img_tests.proofs.memory_host.MemoryHost.file.Given as goal
 
 -- the file isn't among those that were looked at
 abbrev pub invariant-loop-file : goal.invariant-loop-file
