@@ -253,26 +253,34 @@ are_files count s = length s.files == count
 abbrev takes_word : State → Bool
 takes_word s = are_files 1 s || are_files 2 s
 
-abbrev size_behind_is_meant : State → Bool
-size_behind_is_meant s = word_is_size (second_word s.files)
-    && (is_some (second_word s.files) || is_some (value_given (codes "backing") s))
+abbrev size_behind_is_meant : Option Text → State → Bool
+size_behind_is_meant word s =
+    word_is_size word && (is_some word || is_some (value_given (codes "backing") s))
 
 abbrev pub info_is_meant : State → Bool
 info_is_meant s = are_files 1 s && (format_is_meant (codes "format") s
     && (output_is_meant s && opening_is_meant s))
 
+abbrev pub pair_is_meant : State → Bool
+pair_is_meant s = are_files 2 s && format_is_meant (codes "format") s
+
 abbrev pub compare_is_meant : State → Bool
-compare_is_meant s = are_files 2 s && (format_is_meant (codes "format") s
-    && (format_is_meant (codes "second-format") s && opening_is_meant s))
+compare_is_meant s = pair_is_meant s
+    && (format_is_meant (codes "second-format") s && opening_is_meant s)
+
+abbrev pub copy_is_meant : State → Bool
+copy_is_meant s = is_some (new_format s) && (existing_is_meant s && sparse_is_meant s)
 
 abbrev pub convert_is_meant : State → Bool
-convert_is_meant s = are_files 2 s && (format_is_meant (codes "format") s
-    && (is_some (new_format s)
-    && (existing_is_meant s && (sparse_is_meant s && opening_is_meant s))))
+convert_is_meant s = pair_is_meant s && (copy_is_meant s && opening_is_meant s)
+
+abbrev pub new_disk_is_meant : Option Text → State → Bool
+new_disk_is_meant word s = is_some (new_format s)
+    && ((backing_is_meant s && below_is_meant s) && size_behind_is_meant word s)
 
 abbrev pub create_is_meant : State → Bool
-create_is_meant s = takes_word s && (is_some (new_format s) && (backing_is_meant s
-    && (below_is_meant s && (size_behind_is_meant s && opening_is_meant s))))
+create_is_meant s = takes_word s
+    && (new_disk_is_meant (second_word s.files) s && opening_is_meant s)
 
 abbrev pub measure_is_meant : State → Bool
 measure_is_meant s = measured_is_meant s && (format_is_meant (codes "format") s

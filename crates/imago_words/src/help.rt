@@ -23,10 +23,8 @@ impl Display for Help {
         let Some(kind) = self.0 else {
             return fmt_program(f);
         };
-        let page = kind.page();
-        writeln!(f, "{}\n", page.about)?;
-        fmt_usage(f, &page)?;
-        f.write_str("\n\nOptions:\n")?;
+        let page = kind.table();
+        fmt_usage(f, page)?;
         for row in page.rows {
             fmt_row(f, row)?;
         }
@@ -36,31 +34,46 @@ impl Display for Help {
 
 /// The help of the program.
 fn fmt_program<W: fmt::Write>(f: &mut fmt::Formatter<W>) -> fmt::Result {
-    f.write_str("Describe, list, check, compare, convert and make disk images\n\n")?;
-    f.write_str("usage: imago-img COMMAND [OPTION..] FILE [FILE]\n\nCommands:\n")?;
+    f.write_str(
+        "Describe, list, check, compare, convert and make disk images\n\n\
+        usage: imago-img COMMAND [OPTION..] FILE [FILE]\n\nCommands:\n",
+    )?;
     for kind in &KINDS {
-        let page = kind.page();
-        writeln!(f, "  {:8} {}", page.name, page.about)?;
+        fmt_command(f, kind.table())?;
     }
     f.write_str("\nimago-img COMMAND --help prints the options of a command.\n")
 }
 
-/// The usage of a command, without a newline.
+/// The line of a command.
+fn fmt_command<W: fmt::Write>(f: &mut fmt::Formatter<W>, page: &Page) -> fmt::Result {
+    writeln!(f, "  {:8} {}", page.name, page.about)
+}
+
+/// What a command does, its usage, and the heading of its options.
 fn fmt_usage<W: fmt::Write>(f: &mut fmt::Formatter<W>, page: &Page) -> fmt::Result {
-    write!(f, "usage: imago-img {}", page.name)?;
-    let indent = page.name.len().saturating_add(18);
+    write!(f, "{}\n\nusage: imago-img {}", page.about, page.name)?;
+    fmt_arguments(f, page, page.name.len().saturating_add(18))?;
+    f.write_str("\n\nOptions:\n")
+}
+
+/// The options and files in the usage of a command. Lines behind the first one are indented.
+fn fmt_arguments<W: fmt::Write>(
+    f: &mut fmt::Formatter<W>,
+    page: &Page,
+    indent: usize,
+) -> fmt::Result {
     let mut column = indent;
     for row in page.rows {
-        let width = width(row).saturating_add(2);
-        column = fmt_gap(f, column, width, indent)?;
-        if row.takes_value() {
-            write!(f, "[{} {}]", Name(*row), row.value)?;
-        } else {
-            write!(f, "[{}]", Name(*row))?;
-        }
+        column = fmt_gap(f, column, width(row), indent)?;
+        fmt_option(f, row)?;
     }
-    let _ = fmt_gap(f, column, page.files.len(), indent)?;
+    fmt_gap(f, column, page.files.len(), indent)?;
     f.write_str(page.files)
+}
+
+/// An option in the usage of a command.
+fn fmt_option<W: fmt::Write>(f: &mut fmt::Formatter<W>, row: &Row) -> fmt::Result {
+    write!(f, "[{}{}{}]", Name(*row), row.gap(), row.value)
 }
 
 /// A space before a text of that width, or a new line if the text would pass its end. Gives the
@@ -83,44 +96,34 @@ fn fmt_gap<W: fmt::Write>(
 /// How wide an option is in the usage.
 fn width(row: &Row) -> usize {
     let name = if row.letter.is_empty() {
-        row.name.len().saturating_add(2)
+        row.name.len().saturating_add(4)
     } else {
-        2
+        4
     };
-    if row.takes_value() {
-        name.saturating_add(row.value.len()).saturating_add(1)
-    } else {
-        name
-    }
+    name.saturating_add(row.gap().len())
+        .saturating_add(row.value.len())
 }
 
 /// The line of an option.
 fn fmt_row<W: fmt::Write>(f: &mut fmt::Formatter<W>, row: &Row) -> fmt::Result {
-    let names = fmt_names(f, row)?;
-    let gap = HELP_COLUMN.saturating_sub(names);
-    write!(f, "{:gap$}{}", "", row.help)?;
-    if !row.takes.is_empty() {
-        write!(f, ": {}", row.takes)?;
-    }
-    f.write_str("\n")
+    fmt_names(f, row)?;
+    let colon = if row.takes.is_empty() { "" } else { ": " };
+    writeln!(f, "{}{colon}{}", row.help, row.takes)
 }
 
-/// The letter, the name and the value of an option. Gives how wide they are.
-fn fmt_names<W: fmt::Write>(f: &mut fmt::Formatter<W>, row: &Row) -> Result<usize, fmt::Error> {
-    let (front, width) = match (row.letter.is_empty(), row.name.is_empty()) {
-        (true, _) => ("      --", 8usize),
-        (false, true) => ("  -", 4),
-        (false, false) => ("  -", 8),
+/// The letter, the name and the value of an option, filled up to the column of its help.
+fn fmt_names<W: fmt::Write>(f: &mut fmt::Formatter<W>, row: &Row) -> fmt::Result {
+    let (front, between, width) = match (row.letter.is_empty(), row.name.is_empty()) {
+        (true, _) => ("      --", "", 8usize),
+        (false, true) => ("  -", "", 4),
+        (false, false) => ("  -", ", --", 8),
     };
-    write!(f, "{front}{}", row.letter)?;
-    if !row.letter.is_empty() && !row.name.is_empty() {
-        f.write_str(", --")?;
-    }
-    f.write_str(row.name)?;
-    let named = row.name.len().saturating_add(width);
-    if !row.takes_value() {
-        return Ok(named);
-    }
-    write!(f, " {}", row.value)?;
-    Ok(named.saturating_add(row.value.len()).saturating_add(1))
+    let gap = row.gap();
+    let width = width.saturating_add(row.name.len());
+    let rest = HELP_COLUMN.saturating_sub(width.saturating_add(gap.len()));
+    write!(
+        f,
+        "{front}{}{between}{}{gap}{:rest$}",
+        row.letter, row.name, row.value
+    )
 }

@@ -24,18 +24,11 @@ pub(crate) fn hint_of(alloc: Global, fault: &Fault<'_>, kind: Option<Kind>) -> H
     match (fault, kind) {
         (Fault::UnknownCommand(word), _) => hint_of_command(alloc, word),
         (Fault::UnknownLetter { word, letter }, Some(kind)) => {
-            let page = kind.page();
-            match absent_named(page.absent, "-", letter) {
-                Some(absent) => Hint::Instead(absent),
-                None => near_option(alloc, word.trim_start_matches('-'), &page),
-            }
+            let text = word.trim_start_matches('-');
+            hint_of_option(alloc, kind.table(), "-", letter, text)
         }
         (Fault::UnknownName { name, .. }, Some(kind)) => {
-            let page = kind.page();
-            match absent_named(page.absent, "--", name) {
-                Some(absent) => Hint::Instead(absent),
-                None => near_option(alloc, name, &page),
-            }
+            hint_of_option(alloc, kind.table(), "--", name, name)
         }
         (Fault::Setting(setting), _) => match absent_named(&ABSENT_SETTINGS, "", named(setting)) {
             Some(absent) => Hint::Instead(absent),
@@ -60,7 +53,20 @@ fn hint_of_command(alloc: Global, word: &str) -> Hint {
     }
     let mut best = Best::NONE;
     for kind in &KINDS {
-        best = best.or(alloc, word, kind.page().name);
+        best = best.or(alloc, word, kind.table().name);
+    }
+    best.hint()
+}
+
+/// What may help with an option that the command hasn't, of that name behind its dashes; the text
+/// is what may be meant for another one's name.
+fn hint_of_option(alloc: Global, page: &Page, dashes: &str, name: &str, text: &str) -> Hint {
+    if let Some(absent) = absent_named(page.absent, dashes, name) {
+        return Hint::Instead(absent);
+    }
+    let mut best = Best::NONE;
+    for row in page.rows {
+        best = best.or(alloc, text, row.name);
     }
     best.hint()
 }
@@ -73,15 +79,6 @@ fn absent_named(list: &[Absent], dashes: &str, name: &str) -> Option<Absent> {
         }
     }
     None
-}
-
-/// The option whose name is nearest to a text.
-fn near_option(alloc: Global, text: &str, page: &Page) -> Hint {
-    let mut best = Best::NONE;
-    for row in page.rows {
-        best = best.or(alloc, text, row.name);
-    }
-    best.hint()
 }
 
 /// The nearest name so far.

@@ -68,16 +68,23 @@ impl Kind {
     pub fn page(self) -> Page
         ensures { map known result.rows.now ≡ options_of self }
     {
+        *self.table()
+    }
+
+    /// Its page, as it stands in the table.
+    pub(crate) fn table(self) -> &'static Page
+        ensures { map known result.now.rows.now ≡ options_of self }
+    {
         match self {
-            Kind::Info => INFO,
-            Kind::Map => MAP,
-            Kind::Check => CHECK,
-            Kind::Vet => VET,
-            Kind::Compare => COMPARE,
-            Kind::Convert => CONVERT,
-            Kind::Create => CREATE,
-            Kind::Measure => MEASURE,
-            Kind::Resize => RESIZE,
+            Kind::Info => &INFO,
+            Kind::Map => &MAP,
+            Kind::Check => &CHECK,
+            Kind::Vet => &VET,
+            Kind::Compare => &COMPARE,
+            Kind::Convert => &CONVERT,
+            Kind::Create => &CREATE,
+            Kind::Measure => &MEASURE,
+            Kind::Resize => &RESIZE,
         }
     }
 }

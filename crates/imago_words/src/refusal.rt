@@ -7,7 +7,7 @@ use crate::fault::Fault;
 use crate::hint::{Hint, hint_of};
 use crate::kind::Kind;
 use crate::page::Page;
-use crate::row::Name;
+use crate::row::{Name, Row};
 use std::alloc::Global;
 use std::fmt::{self, Display};
 
@@ -45,45 +45,53 @@ impl<'a> Refusal<'a> {
             _ => 1,
         }
     }
+
+    /// Tells what is wrong with the words behind a command's name.
+    fn fmt_fault<W: fmt::Write>(&self, f: &mut fmt::Formatter<W>, page: &Page) -> fmt::Result {
+        match self.fault {
+            Fault::FewFiles | Fault::ManyFiles(_) => fmt_files(f, self.fault, page),
+            Fault::UnknownLetter { word, .. } | Fault::UnknownName { word, .. } => {
+                fmt_option(f, word, self.hint, page)
+            }
+            Fault::Setting(setting) => fmt_setting(f, setting, self.hint),
+            Fault::Unfit(why) => f.write_str(why),
+            Fault::NoSize(word) => write!(f, "{word:?} isn't a size such as 64M"),
+            _ => fmt_value(f, self.fault, page),
+        }
+    }
+
+    /// Tells why no command is named.
+    fn fmt_unnamed<W: fmt::Write>(&self, f: &mut fmt::Formatter<W>) -> fmt::Result {
+        match self.fault {
+            Fault::UnknownCommand(word) => write!(f, "{word:?} isn't a command of imago-img")?,
+            _ => f.write_str("no command is named")?,
+        }
+        fmt_hint(f, self.hint)?;
+        f.write_str("; see imago-img --help")
+    }
 }
 
 impl Display for Refusal<'_> {
     fn fmt<W: fmt::Write>(&self, f: &mut fmt::Formatter<W>) -> fmt::Result {
         let Some(kind) = self.kind else {
-            return fmt_unnamed(f, self.fault, self.hint);
+            return self.fmt_unnamed(f);
         };
-        let page = kind.page();
-        match self.fault {
-            Fault::Memory => return f.write_str("out of memory"),
-            Fault::FewFiles | Fault::ManyFiles(_) => fmt_files(f, self.fault, &page)?,
-            Fault::UnknownLetter { word, .. } | Fault::UnknownName { word, .. } => {
-                fmt_option(f, word, self.hint, &page)?;
-            }
-            Fault::Setting(setting) => fmt_setting(f, setting, self.hint)?,
-            Fault::Unfit(why) => f.write_str(why)?,
-            Fault::NoSize(word) => write!(f, "{word:?} isn't a size such as 64M")?,
-            _ => fmt_value(f, self.fault, &page)?,
+        if let Fault::Memory = self.fault {
+            return f.write_str("out of memory");
         }
+        let page = kind.table();
+        self.fmt_fault(f, page)?;
         write!(f, "; see imago-img {} --help", page.name)
     }
 }
 
-/// Tells why no command is named.
-fn fmt_unnamed<W: fmt::Write>(
-    f: &mut fmt::Formatter<W>,
-    fault: Fault<'_>,
-    hint: Hint,
-) -> fmt::Result {
-    match fault {
-        Fault::UnknownCommand(word) => write!(f, "{word:?} isn't a command of imago-img")?,
-        _ => f.write_str("no command is named")?,
-    }
+/// Tells what may help with a word that is no command's name.
+fn fmt_hint<W: fmt::Write>(f: &mut fmt::Formatter<W>, hint: Hint) -> fmt::Result {
     match hint {
-        Hint::Instead(absent) => write!(f, ": {}", absent.instead)?,
-        Hint::Near(name) => write!(f, " (did you mean {name}?)")?,
-        Hint::Nothing => {}
+        Hint::Instead(absent) => write!(f, ": {}", absent.instead),
+        Hint::Near(name) => write!(f, " (did you mean {name}?)"),
+        Hint::Nothing => Ok(()),
     }
-    f.write_str("; see imago-img --help")
 }
 
 /// Tells of an option that the command hasn't.
@@ -121,9 +129,16 @@ fn fmt_value<W: fmt::Write>(
     let (Fault::NoValue(key) | Fault::NoneTaken(key) | Fault::Value(key, _)) = fault else {
         return Ok(());
     };
-    let Some(row) = page.rows.iter().find(|row| row.key == key) else {
-        return Ok(());
-    };
+    for row in page.rows {
+        if row.key == key {
+            return fmt_taken(f, fault, row);
+        }
+    }
+    Ok(())
+}
+
+/// Tells what an option takes, and what it was given.
+fn fmt_taken<W: fmt::Write>(f: &mut fmt::Formatter<W>, fault: Fault<'_>, row: &Row) -> fmt::Result {
     let name = Name(*row);
     match fault {
         Fault::NoneTaken(_) => write!(f, "{name} takes no value"),

@@ -30,6 +30,11 @@ impl Row {
         !self.value.is_empty()
     }
 
+    /// The space before its value; empty if it takes none.
+    pub(crate) fn gap(&self) -> &'static str {
+        if self.takes_value() { " " } else { "" }
+    }
+
     /// What it takes, in words.
     pub(crate) fn taken(&self) -> &'static str {
         if self.takes.is_empty() {

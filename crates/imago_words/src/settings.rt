@@ -1,12 +1,13 @@
 // SPDX-License-Identifier: MIT
 //! What `-o` says of a new file.
 ghost use Rattle.std.specs.Prelude.{◌≡◌, ◌+◌, ◌<◌, length, is_ok, is_some, IfOk, IfSome, Some};
-ghost use Rattle.std.specs.Prelude.{◌∷◌, [], MatchOption};
+ghost use Rattle.std.specs.Prelude.{◌∷◌, [], MatchOption, option_and_then};
 ghost use Rattle.imago_words.specs.Reading.{state_of};
 ghost use Rattle.imago_words.specs.Settings.{bits_of, is_default, plain, version_named};
 ghost use Rattle.imago_words.specs.Settings.{preallocation_named, set, set_all, set_one};
 ghost use Rattle.imago_words.specs.Settings.{texts_of};
 ghost use Rattle.imago_words.specs.Settings.{format_by, new_format, qcow2_format, raw_format};
+ghost use Rattle.imago_words.specs.Sizes.{size_of};
 
 use crate::cut::cut_at_equals;
 use crate::fault::Fault;
@@ -65,7 +66,7 @@ impl Settings {
                 ..self
             }),
             "cluster_size" => Some(Settings {
-                cluster_bits: bits_of(size_named(value)?)?,
+                cluster_bits: bits_of(value)?,
                 ..self
             }),
             "preallocation" => Some(Settings {
@@ -132,12 +133,12 @@ fn version_named(value: &str) -> Option<Version>
     }
 }
 
-/// The base 2 logarithm of a cluster's length in bytes, if a cluster may have that length.
+/// The base 2 logarithm of a cluster's length in bytes, if a cluster may have that size.
 #[tactic(auto, unfolding(crate::specs::Settings::bits_of))]
-fn bits_of(size: u64) -> Option<u32>
-    ensures { result ≡ bits_of size }
+fn bits_of(size: &str) -> Option<u32>
+    ensures { result ≡ option_and_then bits_of (size_of size.now) }
 {
-    match size {
+    match size_named(size)? {
         0x200 => Some(9),
         0x400 => Some(10),
         0x800 => Some(11),
