@@ -546,17 +546,16 @@ fn are_alike(found: Comparison, same_size: bool) -> bool
     !leaves_out(same_size, found.sizes.0, found.sizes.1) && found.difference.is_none()
 }
 
-/// Tells the first offset at which two images differ, or that they don't.
+/// Tells the first offset at which two images differ, or that they don't, in the words of
+/// `qemu-img`. That their sizes differ is told, as there, where what both disks have is the same.
 fn tell_difference<W: Write>(found: Comparison, same_size: bool, output: &mut W) -> io::Result<()> {
     let (one, other) = found.sizes;
     if leaves_out(same_size, one, other) {
-        return writeln!(output, "The sizes differ: {one} and {other} bytes.");
+        return writeln!(output, "Strict mode: Image size mismatch!");
     }
-    if one != other {
-        writeln!(
-            output,
-            "The sizes differ: {one} and {other} bytes; what lacks is taken as 0."
-        )?;
+    let common = one.min(other);
+    if one != other && found.difference.unwrap_or(common) >= common {
+        writeln!(output, "Warning: Image size mismatch!")?;
     }
     match found.difference {
         None => writeln!(output, "Images are identical."),

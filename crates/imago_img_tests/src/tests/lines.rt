@@ -92,8 +92,7 @@ static MEANT: [Row; 23] = [
     (
         "compare -f raw one.qcow2 one.qcow2",
         1,
-        "The sizes differ: 3584 and 2048 bytes; what lacks is taken as 0.\n\
-         Content mismatch at offset 0!\n",
+        "Content mismatch at offset 0!\n",
         "",
     ),
     (
@@ -106,7 +105,7 @@ static MEANT: [Row; 23] = [
     (
         "compare -s plain.raw longer.raw",
         1,
-        "The sizes differ: 7 and 9 bytes.\n",
+        "Strict mode: Image size mismatch!\n",
         "",
     ),
     ("compare -qs plain.raw longer.raw", 1, "", ""),

@@ -32,7 +32,7 @@ fn files(alloc: Global) -> Result<MemoryHost, AllocError> {
 }
 
 /// What is printed of the disk and of an image of it.
-const ALIKE: &str = "The sizes differ: 70001 and 70144 bytes; what lacks is taken as 0.
+const ALIKE: &str = "Warning: Image size mismatch!
 Images are identical.
 ";
 

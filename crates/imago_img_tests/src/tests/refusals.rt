@@ -7,7 +7,7 @@ use super::set_up::{Case, check_cases};
 type Row = (&'static str, u8, &'static str, &'static str);
 
 /// Images and files that are refused, and faults that are found.
-static ROWS: [Row; 28] = [
+static ROWS: [Row; 29] = [
     // The file, and its format.
     (
         "info nothing.raw",
@@ -137,7 +137,13 @@ static ROWS: [Row; 28] = [
     (
         "compare plain.raw longer.raw",
         0,
-        "The sizes differ: 7 and 9 bytes; what lacks is taken as 0.\nImages are identical.\n",
+        "Warning: Image size mismatch!\nImages are identical.\n",
+        "",
+    ),
+    (
+        "compare plain.raw tail.raw",
+        1,
+        "Warning: Image size mismatch!\nContent mismatch at offset 9!\n",
         "",
     ),
     (

@@ -29,7 +29,7 @@ pub struct Case {
 }
 
 /// The files.
-static FILES: [FileRow; 27] = [
+static FILES: [FileRow; 28] = [
     (
         "disk.vmdk",
         0,
@@ -118,6 +118,7 @@ static FILES: [FileRow; 27] = [
     ("esx-flat.vmdk", 509, b"esx", Nature::Plain),
     ("plain.raw", 2, b"hello", Nature::Plain),
     ("longer.raw", 2, b"hello\0\0", Nature::Plain),
+    ("tail.raw", 2, b"hello\0\0end", Nature::Plain),
     ("other.raw", 2, b"hellO", Nature::Plain),
     ("disk.dev", 1, b"dev", Nature::Device),
 ];
