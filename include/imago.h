@@ -107,7 +107,10 @@ struct imago_image {
 
 /* The format of a file. */
 enum imago_format {
-    /* qcow2 by its first bytes, or else VMDK if the whole is a descriptor's text, or else raw */
+    /* What the file is recognised as by its first 512 bytes, or else by its last ones: a qcow2
+     * image; a VMDK descriptor, by "# Disk DescriptorFile"; or a raw disk, if it is recognised as
+     * nothing. A file that is recognised as something else, such as a VHDX image or an archive, is
+     * refused: say IMAGO_FORMAT_RAW if its bytes are those of the disk all the same. */
     IMAGO_FORMAT_UNKNOWN = 0,
     IMAGO_FORMAT_RAW = 1,
     IMAGO_FORMAT_VMDK = 2,
@@ -163,7 +166,8 @@ uint32_t imago_image_want(struct imago_image *image, struct imago_want *want);
  *  - The first fault of a descriptor, by the same two.
  *  - IMAGO_INVALID_DATA is also an extent that begins in its file at an offset which doesn't fit 64
  *    bits, and a backing file whose format's name passes the end of the header extensions.
- *  - IMAGO_UNSUPPORTED is also a file below 200 others.
+ *  - IMAGO_UNSUPPORTED is also a file of IMAGO_FORMAT_UNKNOWN that is recognised as what isn't
+ *    opened, and a file below 200 others.
  *  - IMAGO_MEMORY is no memory.
  * The opening is over then, and imago_image_want says so. IMAGO_MEMORY may also leave the image as
  * it was, and the same bytes are asked for still. */

@@ -101,6 +101,10 @@ static inline uint32_t imago_disk_next(struct imago_disk *disk, uint32_t kind,
     if (strlen(name) != length) return IMAGO_UNSUPPORTED;
     code = imago_image_format_name(&disk->image, (uint8_t *)said, sizeof said - 1, &length);
     if (code == IMAGO_DONE) {
+        if (strcmp(said, "file") == 0) { /* an old name of raw */
+            memcpy(said, "raw", sizeof "raw");
+            length = strlen(said);
+        }
         for (format = 3; format > 0 && strcmp(said, formats[format]) != 0;) format--;
         if (format == 0 || strlen(said) != length) return IMAGO_UNSUPPORTED;
     }

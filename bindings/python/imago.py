@@ -2,7 +2,7 @@
 """Disks of images: raw, qcow2 and VMDK, with their backing files and extents, for reading.
 
     import imago
-    with imago.open("disk.qcow2") as disk:
+    with imago.open("disk.qcow2", imago.QCOW2) as disk:
         print(disk.size, disk.pread(512, 0))
 
 The proved library says where each byte stands; this module opens the files and reads them, and
@@ -24,7 +24,8 @@ import stat
 UNKNOWN, RAW, VMDK, QCOW2 = range(4)
 BACKING, EXTENT = 2, 3
 ZERO, STORED, COMPRESSED = range(3)
-_FORMATS = {b"raw": RAW, b"vmdk": VMDK, b"qcow2": QCOW2}
+# `file` is an old name of raw.
+_FORMATS = {b"raw": RAW, b"file": RAW, b"vmdk": VMDK, b"qcow2": QCOW2}
 _KINDS = (
     "done",
     "the image is read-only",

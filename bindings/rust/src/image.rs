@@ -15,8 +15,10 @@ use std::path::{Path, PathBuf};
 /// The format of a file.
 #[derive(Clone, Copy, Debug, Default, PartialEq, Eq)]
 pub enum Format {
-    /// What its bytes are recognised as: qcow2, or else VMDK if the whole is a descriptor's text,
-    /// or else raw.
+    /// What the file is recognised as by its first 512 bytes, or else by its last ones: a qcow2
+    /// image; a VMDK descriptor, by `# Disk DescriptorFile`; or a raw disk, if it is recognised as
+    /// nothing. A file that is recognised as something else, such as a VHDX image or an archive,
+    /// is refused: say `Raw` if its bytes are those of the disk all the same.
     #[default]
     Unknown,
     Raw,
@@ -25,10 +27,11 @@ pub enum Format {
 }
 
 impl Format {
-    /// The format of that name, if one has it.
+    /// The format of that name, if one has it. `file` is an old name of `raw`, which headers may have
+    /// for a backing file.
     pub fn named(name: &[u8]) -> Option<Format> {
         match name {
-            b"raw" => Some(Format::Raw),
+            b"raw" | b"file" => Some(Format::Raw),
             b"vmdk" => Some(Format::Vmdk),
             b"qcow2" => Some(Format::Qcow2),
             _ => None,

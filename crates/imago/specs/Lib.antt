@@ -144,7 +144,7 @@ pub use Rattle.imago_copy.specs.Differences as FirstDifferences
 pub use Rattle.imago_plan.specs.Pieces
 pub use Rattle.imago_plan.specs.PieceBytes
 pub use Rattle.imago_plan.specs.StoredBytes
-pub use Rattle.imago_images.specs.Signatures as ImageSignatures
+pub use Rattle.imago_formats.specs.Signatures as ImageSignatures
 pub use Rattle.imago_images.specs.Formats as ImageFormats
 pub use Rattle.imago_images.specs.Opening as ImageOpening
 pub use Rattle.imago_images.specs.Extents as ExtentFiles
@@ -210,7 +210,7 @@ pub use Rattle.imago_images.specs.declared.files.FileKind
 pub use Rattle.imago_images.specs.declared.files.FileStatus
 pub use Rattle.imago_images.specs.declared.file.PathFile as DeclaredPathFile
 pub use Rattle.imago_images.specs.declared.format.ImageFormat
-pub use Rattle.imago_images.specs.declared.signature.Signature
+pub use Rattle.imago_formats.specs.declared.signature.Signature
 pub use Rattle.imago_images.specs.declared.opening.Opening as DeclaredOpening
 pub use Rattle.imago_images.specs.declared.opening.OtherFiles
 pub use Rattle.imago_images.specs.declared.failure.OpenError

@@ -2,3 +2,4 @@
 pub mod TextSteps
 pub mod HeadLaws
 pub mod TakenSteps
+pub mod SignatureSteps

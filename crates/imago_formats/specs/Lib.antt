@@ -3,3 +3,4 @@ pub mod Bytes
 pub mod Text
 pub mod Probes
 pub mod Laws
+pub mod Signatures

@@ -1,12 +1,14 @@
 // SPDX-License-Identifier: MIT
-//! Which format QEMU sees in a file whose format isn't said.
+//! What a file is recognised as whose format isn't said, and which format QEMU sees in it.
 //!
-//! [`probe::qemu_takes_for`] takes the first bytes of a file and its name, as the probes of QEMU
-//! 7.2 do, and [`laws`] says that no others count. [`text`] is the rule for a VMDK descriptor.
+//! [`signature`] has the marks by which files are recognised here. [`probe::qemu_takes_for`] takes
+//! the first bytes of a file and its name, as the probes of QEMU 7.2 do, and [`laws`] says that no
+//! others count. [`text`] is their rule for a VMDK descriptor.
 #![tactic(auto)]
 
 pub mod laws;
 pub mod probe;
+pub mod signature;
 #[cfg(test)]
 mod tests;
 mod text;

@@ -4,7 +4,7 @@ use Rattle.std.proofs.Common.{◌≡◌, ℕ, ◌+◌, ◌*◌, ◌<◌, ◌≤�
 use Rattle.std.proofs.Common.{◌^◌, ◌⊎◌, false, Option, Result, Ok, IfOk, IfErr, IsOk}
 use Rattle.std.proofs.lemmas.Bool.Decides.{nat_tests}
 use Rattle.std.proofs.lemmas.List.FromFn.{get_or-map-range_with_len}
-use Rattle.imago_plan.specs.PieceBytes.{bytes_at}
+use Rattle.imago_storage.specs.Bytes.{bytes_at}
 use Rattle.imago_qcow2.specs.declared.header.Header.{Header}
 use Rattle.imago_qcow2.specs.Numbers.{be32, be64}
 use Rattle.imago_qcow2.specs.Header.{header_of, IsSound}

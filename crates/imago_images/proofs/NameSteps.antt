@@ -6,8 +6,8 @@ use Rattle.std.specs.Prelude.{option_map}
 use Rattle.std.specs.declared.vec.Vec.{Vec}
 use Rattle.imago_qcow2.specs.Numbers.{be64}
 use Rattle.imago_qcow2.specs.Backing.{IsBackingName, IsFormatName}
-use Rattle.imago_plan.specs.PieceBytes.{bytes_at}
-use Rattle.imago_plan.proofs.BytesAt.{read_bytes}
+use Rattle.imago_storage.specs.Bytes.{bytes_at}
+use Rattle.imago_storage.proofs.BytesAt.{read_bytes}
 use Rattle.imago_images.specs.declared.format.ImageFormat.{ImageFormat}
 use Rattle.imago_images.specs.Formats.{format_named, SaysFormat}
 use Rattle.imago_images.specs.Layers.{SaysBacking}

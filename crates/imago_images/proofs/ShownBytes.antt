@@ -5,7 +5,7 @@ use Rattle.std.proofs.lemmas.Bool.{cases_lt}
 use Rattle.std.proofs.lemmas.List.{places, same_lists}
 use Rattle.std.proofs.lemmas.List.FromFn.{get_or-map-range_with_len}
 use Rattle.imago_file.specs.Contents.{sized, resized, HoldsAt}
-use Rattle.imago_plan.specs.PieceBytes.{bytes_at}
+use Rattle.imago_storage.specs.Bytes.{bytes_at}
 use Rattle.imago_images.specs.HostBytes.{shown_bytes}
 
 at_shown : (xs : List ℕ) (n p : ℕ) → p < n → slice_index (sized xs n) p ≡ slice_index xs p

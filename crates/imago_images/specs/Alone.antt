@@ -7,13 +7,13 @@ use Rattle.imago_drivers.specs.View.{View}
 use Rattle.imago_access.specs.declared.access.FormatAccess.{FormatAccess}
 use Rattle.imago_images.specs.declared.format.ImageFormat.{ImageFormat}
 use Rattle.imago_images.specs.declared.format.ImageFormat.TheVariants.{Raw}
-use Rattle.imago_images.specs.declared.signature.Signature.{Signature}
+use Rattle.imago_formats.specs.declared.signature.Signature.{Signature}
 use Rattle.imago_images.specs.declared.failure.Reason.{Reason}
 use Rattle.imago_images.specs.declared.opening.Opening.{Opening}
 use Rattle.imago_images.specs.declared.opening.OtherFiles.{OtherFiles}
 use Rattle.imago_images.specs.declared.opening.OtherFiles.TheVariants as Others
 use Rattle.imago_images.specs.Layers.{SaysBacking}
-use Rattle.imago_images.specs.Signatures.{signature_of, other_signature_of}
+use Rattle.imago_formats.specs.Signatures.{signature_of, other_signature_of}
 use Rattle.imago_images.specs.Images.{AreLayers, IsImageIn}
 
 -- the same opening, where no other files are opened

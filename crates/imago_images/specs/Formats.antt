@@ -1,21 +1,21 @@
 -- The formats of images in files: their names, and which one a file is taken to have.
 -- SPDX-License-Identifier: MIT
 use Rattle.std.specs.Prelude.{◌≡◌, ℕ, List, Option, Some, None, Result, Ok, Err}
-use Rattle.std.specs.Prelude.{codes, nat_eq, if◌then◌else◌}
+use Rattle.std.specs.Prelude.{codes, nat_eq, if◌then◌else◌, ◌||◌}
 use Rattle.std.specs.List.{ends_with}
 use Rattle.std.specs.Str.{bytes_eq}
 use Rattle.imago_qcow2.specs.Backing.{format_of}
-use Rattle.imago_plan.specs.PieceBytes.{bytes_at}
+use Rattle.imago_storage.specs.Bytes.{bytes_at}
 use Rattle.imago_images.specs.declared.format.ImageFormat.{ImageFormat}
 use Rattle.imago_images.specs.declared.format.ImageFormat.TheVariants.{Raw, Vmdk, Qcow2}
-use Rattle.imago_images.specs.declared.signature.Signature.{Signature}
-use Rattle.imago_images.specs.declared.signature.Signature.TheVariants as Of
-use Rattle.imago_images.specs.Signatures.{signature_of}
+use Rattle.imago_formats.specs.declared.signature.Signature.{Signature}
+use Rattle.imago_formats.specs.declared.signature.Signature.TheVariants as Of
+use Rattle.imago_formats.specs.Signatures.{signature_of}
 
--- the format of that name, if one has it
+-- the format of that name, if one has it: 'file' is an old name of raw
 unfoldable pub format_named : List ℕ → Option ImageFormat
 format_named name =
-    if bytes_eq name (codes "raw") then Some Raw else
+    if bytes_eq name (codes "raw") || bytes_eq name (codes "file") then Some Raw else
     (if bytes_eq name (codes "vmdk") then Some Vmdk else
     (if bytes_eq name (codes "qcow2") then Some Qcow2 else None))
 

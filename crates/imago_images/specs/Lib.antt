@@ -1,5 +1,4 @@
 -- SPDX-License-Identifier: MIT
-pub mod Signatures
 pub mod Formats
 pub mod Opening
 pub mod Extents

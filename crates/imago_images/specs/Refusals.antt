@@ -14,7 +14,7 @@ use Rattle.imago_qcow2.specs.Backing.{format_of}
 use Rattle.imago_qcow2.specs.Fault.{error_of}
 use Rattle.imago_qcow2.specs.Header.{header_of}
 use Rattle.imago_qcow2.specs.Limit.{TablesNeedMore}
-use Rattle.imago_plan.specs.PieceBytes.{bytes_at}
+use Rattle.imago_storage.specs.Bytes.{bytes_at}
 use Rattle.imago_vmdk.specs.declared.line.Accepted.{Accepted}
 use Rattle.imago_vmdk.specs.declared.line.Extent.{Extent}
 use Rattle.imago_vmdk.specs.Reading.{reading_of}
@@ -27,8 +27,8 @@ use Rattle.imago_images.specs.declared.format.ImageFormat.TheVariants as Format
 use Rattle.imago_images.specs.declared.gate.Named.{Named}
 use Rattle.imago_images.specs.declared.opening.OtherFiles.{OtherFiles}
 use Rattle.imago_images.specs.declared.opening.OtherFiles.TheVariants as Others
-use Rattle.imago_images.specs.declared.signature.Signature.{Signature}
-use Rattle.imago_images.specs.declared.signature.Signature.TheVariants as Of
+use Rattle.imago_formats.specs.declared.signature.Signature.{Signature}
+use Rattle.imago_formats.specs.declared.signature.Signature.TheVariants as Of
 use Rattle.imago_images.specs.BackingNames.{file_named}
 use Rattle.imago_images.specs.Extents.{HasFlat}
 use Rattle.imago_images.specs.Formats.{format_named, told_format}

@@ -5,7 +5,7 @@ ghost use Rattle.imago_images.specs.declared.failure.OpenError.TheVariants.{Memo
 ghost use Rattle.imago_images.specs.Refusals.{IsRefused, IsBySystem, IsByDriver};
 
 use crate::format::ImageFormat;
-use crate::signature::Signature;
+use imago_formats::signature::Signature;
 use imago_qcow2::fault::HeaderFault;
 use imago_storage::error;
 use std::alloc::{AllocError, AllocFailed, Global};

@@ -5,7 +5,7 @@ ghost use Rattle.imago_images.specs.Formats.{qcow2_by_name, descriptor_by_name};
 ghost use Rattle.imago_images.specs.Formats.{vmdk_unless as vmdk_unless_by};
 ghost use Rattle.imago_images.specs.Formats.{qcow2_unless as qcow2_unless_by};
 
-use crate::signature::Signature;
+use imago_formats::signature::Signature;
 
 /// The format of an image in files.
 #[derive(Clone, Copy, Debug, PartialEq, Eq)]
@@ -22,13 +22,14 @@ impl ImageFormat {
     ghost use Rattle.imago_images.specs.Formats.{format_named, format_by_name, taken_for};
     ghost use Rattle.imago_images.specs.Formats.{said_for};
 
-    /// The format of that name, if one has it.
+    /// The format of that name, if one has it. `file` is an old name of `raw`, which headers may have
+    /// for a backing file.
     #[tactic(auto, unfolding(crate::specs::Formats::format_named))]
     pub fn named(name: &str) -> Option<ImageFormat>
         ensures { result ≡ format_named name.now }
     {
         match name {
-            "raw" => Some(ImageFormat::Raw),
+            "raw" | "file" => Some(ImageFormat::Raw),
             "vmdk" => Some(ImageFormat::Vmdk),
             "qcow2" => Some(ImageFormat::Qcow2),
             _ => None,

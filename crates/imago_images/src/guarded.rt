@@ -3,7 +3,7 @@
 ghost use Rattle.std.specs.Prelude.{◌≡◌, ℕ, List, Option, None, Some, Bool, true};
 ghost use Rattle.std.specs.Prelude.{OnOk, OnErr, IfOk, IfSome, length};
 ghost use Rattle.std.specs.String.{string_bytes};
-ghost use Rattle.imago_plan.specs.PieceBytes.{bytes_at};
+ghost use Rattle.imago_storage.specs.Bytes.{bytes_at};
 ghost use Rattle.imago_images.specs.HostBytes.{SaysAlike};
 
 use crate::files::{FileStatus, Files, WritableFiles};

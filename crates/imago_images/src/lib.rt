@@ -37,5 +37,4 @@ pub mod opener;
 pub mod opening;
 pub mod over;
 pub mod recognised;
-pub mod signature;
 mod way;

@@ -3,7 +3,7 @@
 ghost use Rattle.std.specs.Prelude.{◌≡◌, ◌≤◌, ◌<◌, ◌^◌, ◌*◌, ◌+◌, ℕ, List, Option, Some};
 ghost use Rattle.std.specs.Prelude.{IfOk, IfErr, IfSome};
 ghost use Rattle.std.specs.Prelude.{length as count_of};
-ghost use Rattle.imago_plan.specs.PieceBytes.{bytes_at};
+ghost use Rattle.imago_storage.specs.Bytes.{bytes_at};
 ghost use Rattle.imago_vmdk.specs.Reading.{reading_of};
 ghost use Rattle.imago_qcow2.specs.Entry.{disk_size};
 ghost use Rattle.imago_qcow2.specs.Limit.{IsWithin};

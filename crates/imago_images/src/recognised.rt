@@ -2,19 +2,19 @@
 //! What a file is recognised as by the bytes that it begins or ends with.
 ghost use Rattle.std.specs.Prelude.{◌≡◌, ℕ, List, Some, OnOk, IfOk, IfErr, length as count_of};
 ghost use Rattle.std.specs.Option.{option_or};
-ghost use Rattle.imago_plan.specs.PieceBytes.{bytes_at};
+ghost use Rattle.imago_storage.specs.Bytes.{bytes_at};
 ghost use Rattle.imago_images.specs.HostBytes.{HasBytes};
 ghost use Rattle.imago_images.specs.Refusals.{IsRefused, IsBySystemOr, IsUnread};
-ghost use Rattle.imago_images.specs.Signatures.{told_by_first, told_by_last};
-ghost use Rattle.imago_images.specs.Signatures.{first_block, last_block};
-ghost use Rattle.imago_images.specs.Signatures.{signature_of as signature_by};
-ghost use Rattle.imago_images.specs.Signatures.{other_signature_of as other_by};
-ghost use Rattle.imago_images.specs.Signatures.{has_iso_mark, iso_beside};
+ghost use Rattle.imago_formats.specs.Signatures.{told_by_first, told_by_last};
+ghost use Rattle.imago_formats.specs.Signatures.{first_block, last_block};
+ghost use Rattle.imago_formats.specs.Signatures.{signature_of as signature_by};
+ghost use Rattle.imago_formats.specs.Signatures.{other_signature_of as other_by};
+ghost use Rattle.imago_formats.specs.Signatures.{has_iso_mark, iso_beside};
 
 use crate::failure::{OpenError, Reason};
-use crate::signature::{BLOCK, ISO_MARK, ISO_OFFSET, Signature};
 use imago_file::file::FileStorage;
 use imago_file::host::HostFile;
+use imago_formats::signature::{BLOCK, ISO_MARK, ISO_OFFSET, Signature};
 use imago_storage::error::Error;
 use imago_storage::ext::StorageExt;
 use imago_storage::storage::Storage;

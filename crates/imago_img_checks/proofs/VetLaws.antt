@@ -6,8 +6,7 @@ use Rattle.std.proofs.lemmas.List.FromFn.{get_or-map-range_with_len}
 use Rattle.imago_storage.specs.declared.error.Error.{Error}
 use Rattle.imago_storage.specs.Error.{IsExtRefusal}
 use Rattle.imago_storage.specs.Features.{Features}
-use Rattle.imago_storage.specs.Bytes.{IsReadAt}
-use Rattle.imago_plan.specs.PieceBytes.{bytes_at}
+use Rattle.imago_storage.specs.Bytes.{IsReadAt, bytes_at}
 use Rattle.imago_vmdk.specs.Reading.{reading_of}
 use Rattle.imago_qcow2.specs.declared.entry.L2Table.{L2Table}
 use Rattle.imago_qcow2.specs.declared.entry.L2Table.TheVariants as T
@@ -29,14 +28,14 @@ use Rattle.imago_images.specs.declared.format.ImageFormat.TheVariants.{Raw, Vmdk
 use Rattle.imago_images.specs.declared.opening.Opening.{Opening}
 use Rattle.imago_images.specs.declared.opening.OtherFiles.{OtherFiles}
 use Rattle.imago_images.specs.declared.opening.OtherFiles.TheVariants as Others
-use Rattle.imago_images.specs.declared.signature.Signature.{Signature}
+use Rattle.imago_formats.specs.declared.signature.Signature.{Signature}
 use Rattle.imago_images.specs.Alone.{HasOneFormat, IsOfAnother}
 use Rattle.imago_images.specs.Chains.{GoesDown, IsLayerRefused, IsChainRefused, IsImageRefused}
 use Rattle.imago_images.specs.Formats.{told_format, IsFormatBy}
 use Rattle.imago_images.specs.Layers.{SaysBacking, size_by}
 use Rattle.imago_images.specs.Longest.{IsNoLonger, IsOverLimit, IsSizeUnknown, IsTooLong, IsTooLarge, HasLongL1, l1_length}
 use Rattle.imago_images.specs.Refusals.{IsRefused, IsBySystem, IsUnread, IsUnseen, IsUnknown, IsUnopened, IsByQcow2, HasLargerTables}
-use Rattle.imago_images.specs.Signatures.{signature_of, other_signature_of}
+use Rattle.imago_formats.specs.Signatures.{signature_of, other_signature_of}
 use Rattle.imago_img_files.specs.declared.failure.Failure.{Failure}
 use Rattle.imago_img_files.specs.Openings.{most_memory}
 use Rattle.imago_img_files.specs.Failures.{IsOfHost, IsHostRefusal, IsHostFailure}

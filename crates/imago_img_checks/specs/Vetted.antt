@@ -28,7 +28,7 @@ use Rattle.imago_images.specs.Chains.{IsImageRefused}
 use Rattle.imago_images.specs.Formats.{IsFormatBy}
 use Rattle.imago_images.specs.Layers.{SaysBacking}
 use Rattle.imago_images.specs.Longest.{IsNoLonger, l1_length}
-use Rattle.imago_images.specs.Signatures.{signature_of}
+use Rattle.imago_formats.specs.Signatures.{signature_of}
 use Rattle.imago_img_files.specs.Failures.{IsHostRefusal}
 use Rattle.imago_img_files.specs.Openings.{most_memory}
 

@@ -15,8 +15,8 @@ use Rattle.imago_copy.specs.Copies.{IsDiskPut}
 use Rattle.imago_copy.specs.Differences.{IsFirstDifferentValue}
 use Rattle.imago_images.specs.declared.format.ImageFormat.{ImageFormat}
 use Rattle.imago_images.specs.declared.opening.Opening.{Opening}
-use Rattle.imago_images.specs.declared.signature.Signature.{Signature}
-use Rattle.imago_images.specs.Signatures.{signature_of}
+use Rattle.imago_formats.specs.declared.signature.Signature.{Signature}
+use Rattle.imago_formats.specs.Signatures.{signature_of}
 use Rattle.imago_images.specs.Formats.{IsFormatBy, told_format, taken_for}
 use Rattle.imago_images.specs.Layers.{layers_value, size_by}
 use Rattle.imago_images.specs.declared.format.ImageFormat.TheVariants.{Raw, Vmdk, Qcow2}

@@ -5,7 +5,7 @@ use Rattle.std.specs.Prelude.{slice_index}
 use Rattle.std.proofs.lemmas.List.FromFn.{get_or-map-range_with_len}
 use Rattle.imago_storage.specs.declared.error.Error.{Error}
 use Rattle.imago_storage.specs.Error.{IsExtRefusal}
-use Rattle.imago_plan.specs.PieceBytes.{bytes_at}
+use Rattle.imago_storage.specs.Bytes.{bytes_at}
 use Rattle.imago_vmdk.specs.declared.line.Accepted.{Accepted}
 use Rattle.imago_vmdk.specs.Reading.{reading_of}
 use Rattle.imago_qcow2.specs.Numbers.{be64}

@@ -2,7 +2,7 @@
 -- SPDX-License-Identifier: MIT
 use Rattle.std.specs.Prelude.{◌≡◌, ℕ, ◌^◌, Bool, true, false, not, List, Option, Some, option_map}
 use Rattle.std.specs.Prelude.{length, unwrap_or}
-use Rattle.imago_plan.specs.PieceBytes.{bytes_at}
+use Rattle.imago_storage.specs.Bytes.{bytes_at}
 use Rattle.imago_vmdk.specs.declared.line.Accepted.{Accepted}
 use Rattle.imago_words.specs.declared.command.Opening as Said
 use Rattle.imago_words.specs.declared.format.Format.{Format}

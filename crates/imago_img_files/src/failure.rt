@@ -5,9 +5,9 @@ ghost use Rattle.imago_img_files.specs.Failures.{IsHostRefusal, IsHostFailure};
 
 use imago_disk::cause::{Cause, ClusterFault, FaultyFile};
 use imago_disk::disk::Unread;
+use imago_formats::signature::Signature;
 pub use imago_images::failure::{OpenError, Reason};
 use imago_images::format::ImageFormat;
-use imago_images::signature::Signature;
 use imago_qcow2_check::fault::{CheckError, Fault};
 use imago_qcow2_new::format::FormatError;
 use imago_storage::error;

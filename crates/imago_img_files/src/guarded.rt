@@ -3,7 +3,7 @@
 ghost use Rattle.std.specs.Prelude.{◌≡◌, ℕ, ◌<◌, ◌≤◌, [], List, Option, Some, true, false};
 ghost use Rattle.std.specs.Prelude.{OnOk, OnErr, IfOk, IfSome, length, option_map, replicate};
 ghost use Rattle.std.specs.Prelude.{string_bytes};
-ghost use Rattle.imago_plan.specs.PieceBytes.{bytes_at};
+ghost use Rattle.imago_storage.specs.Bytes.{bytes_at};
 ghost use Rattle.imago_img_files.specs.Files.{Around, begun, ended, with_file, IsMade, IsWhole};
 ghost use Rattle.imago_img_files.specs.Files.{IsOverwritten, IsResized, IsWithoutLeftOver};
 

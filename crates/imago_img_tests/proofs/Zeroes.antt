@@ -4,7 +4,7 @@ use Rattle.std.proofs.Common.{◌≡◌, ℕ, ◌+◌, ◌<◌, ◌≤◌, ⊎_e
 use Rattle.std.proofs.lemmas.Bool.{cases_lt}
 use Rattle.std.proofs.lemmas.List.{same_lists, get_or_past, get_or-replicate, length-replicate}
 use Rattle.std.proofs.lemmas.List.FromFn.{length-map-range_with_len, get_or-map-range_with_len}
-use Rattle.imago_plan.specs.PieceBytes.{bytes_at}
+use Rattle.imago_storage.specs.Bytes.{bytes_at}
 
 -- bytes that are 0, one by one
 pub zeroes : (xs : List ℕ) (o n : ℕ) → ((k : ℕ) → k < n → slice_index xs (o + k) ≡ 0) → bytes_at xs o n ≡ replicate {A = ℕ} n 0

@@ -145,6 +145,60 @@ static FAR: File = File {
     parts: &[(0, b"version=1\nRW 1 FLAT \"a.img\" 36028797018963968\n")],
 };
 
+/// Files of other formats, each with its mark: a VHDX and a LUKS image, a sparse VMDK image of 3 MiB,
+/// a VDI image, a gzip file, a descriptor that doesn't begin as one does, and a VHD and a DMG image
+/// by what they end with.
+static FOREIGN: [File; 8] = [
+    File {
+        name: b"",
+        length: 1024,
+        parts: &[(0, b"vhdxfile")],
+    },
+    File {
+        name: b"",
+        length: 1024,
+        parts: &[(0, b"LUKS\xba\xbe\0\x01")],
+    },
+    File {
+        name: b"",
+        length: 3145728,
+        parts: &[(0, b"KDMV\x01\0\0\0")],
+    },
+    File {
+        name: b"",
+        length: 1024,
+        parts: &[(64, b"\x7f\x10\xda\xbe")],
+    },
+    File {
+        name: b"",
+        length: 20,
+        parts: &[(0, b"\x1f\x8b\x08")],
+    },
+    File {
+        name: b"",
+        length: 20,
+        parts: &[(0, b"version=1\nRW 1 ZERO\n")],
+    },
+    File {
+        name: b"",
+        length: 262656,
+        parts: &[(262144, b"conectix")],
+    },
+    File {
+        name: b"",
+        length: 512,
+        parts: &[(0, b"koly")],
+    },
+];
+
+/// A raw disk that begins and ends with none of these marks: its last block begins a byte too late
+/// for that of a VHD image.
+static RAW: File = File {
+    name: b"",
+    length: 262656,
+    parts: &[(0, b"raw"), (262145, b"conectix")],
+};
+
 static FIRST_EXTENT: File = File {
     name: b"a.img",
     length: 512,
@@ -199,7 +253,9 @@ fn answer(
         }
         Want::Backing(number) | Want::Extent(number) => {
             let file = numbered(files, number)?;
-            assert_eq!(rt; session.name(), Some(file.name));
+            if !file.name.is_empty() {
+                assert_eq!(rt; session.name(), Some(file.name));
+            }
             session.give_file(file.length as u64, None)?;
             Ok(true)
         }
@@ -417,5 +473,36 @@ fn faults_are_refused(rt: HostRuntime) -> Result<(), Fail> {
     ] {
         check_fault(&rt, rt.alloc(), file, format, fault)?;
     }
+    Ok(())
+}
+
+/// A file of another format is refused where none is said, and so is what is below an image; where
+/// it is said to be raw, none of its bytes is asked for.
+fn check_foreign(rt: &impl Abort, alloc: Global, file: &File) -> Result<(), Error> {
+    let unsupported = Some(Error::Unsupported);
+    assert_eq!(rt; opened(rt, alloc, &[file]).err(), unsupported);
+    assert_eq!(rt; opened(rt, alloc, &[&TOP, file]).err(), unsupported);
+    let accepted = Accepted {
+        unknown_keys: false,
+        vmfs: false,
+    };
+    let session = Session::new(alloc, accepted, file.length as u64, Some(Format::Raw))?;
+    assert_eq!(rt; session.want(), Want::Nothing);
+    assert_eq!(rt; session.size(), Some(file.length as u64));
+    Ok(())
+}
+
+#[test]
+fn other_formats_are_refused(rt: HostRuntime) -> Result<(), Fail> {
+    for file in &FOREIGN {
+        check_foreign(&rt, rt.alloc(), file)?;
+    }
+    Ok(())
+}
+
+#[test]
+fn what_is_recognised_as_nothing_is_raw(rt: HostRuntime) -> Result<(), Fail> {
+    let session = opened(&rt, rt.alloc(), &[&RAW])?;
+    assert_eq!(rt; session.size(), Some(262656));
     Ok(())
 }

@@ -1,7 +1,6 @@
 -- SPDX-License-Identifier: MIT
 pub mod Mapped
 pub mod Pieces
-pub mod BytesAt
 pub mod Disks
 pub mod Layers
 pub mod Described

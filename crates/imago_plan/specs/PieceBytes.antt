@@ -1,14 +1,12 @@
+-- The bytes that the pieces of a plan lead to, by the bytes of the storages.
 -- SPDX-License-Identifier: MIT
-use Rattle.std.specs.Prelude.{ℕ, List, map, replicate, slice_index}
-use Rattle.std.specs.List.{range_with_len, flat_map}
+use Rattle.std.specs.Prelude.{ℕ, List, replicate}
+use Rattle.std.specs.List.{flat_map}
+use Rattle.imago_storage.specs.Bytes.{bytes_at}
 use Rattle.imago_plan.specs.declared.piece.Location.{Location}
 use Rattle.imago_plan.specs.declared.piece.Source.{Source}
 use Rattle.imago_plan.specs.declared.piece.Source.TheVariants as S
 use Rattle.imago_plan.specs.declared.piece.Piece.{Piece}
-
--- the n bytes of a list from an offset on, 0 past its end
-abbrev pub bytes_at : List ℕ → ℕ → ℕ → List ℕ
-bytes_at xs o n = map (slice_index xs) (range_with_len o n)
 
 -- the n bytes from there on, where the storages of each layer have these
 abbrev pub bytes_from : (ℕ → ℕ → List ℕ) → Location → ℕ → List ℕ

@@ -3,11 +3,11 @@
 use Rattle.std.proofs.Common.{◌≡◌, ℕ, ◌+◌, ◌<◌, List, length, slice_index, true, refl, sym, ap, ◌∙◌}
 use Rattle.std.proofs.lemmas.List.{same_lists, get_or_default}
 use Rattle.std.proofs.lemmas.List.FromFn.{length-map-range_with_len, get_or-map-range_with_len}
-use Rattle.imago_storage.specs.Bytes.{IsReadAt}
+use Rattle.imago_storage.specs.Bytes.{IsReadAt, bytes_at}
 use Rattle.imago_inflate.specs.Inflate.{inflated}
 use Rattle.imago_qcow2.specs.declared.header.Compression.{Compression}
 use Rattle.imago_qcow2.specs.declared.header.Compression.TheVariants as By
-use Rattle.imago_qcow2.specs.Compressed.{bytes_at, value_in, packed_value}
+use Rattle.imago_qcow2.specs.Compressed.{value_in, packed_value}
 use Rattle.imago_qcow2.specs.Disk.{AreSameBytes}
 
 -- what was read from an offset on is the bytes there

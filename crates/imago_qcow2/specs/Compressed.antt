@@ -1,18 +1,14 @@
 -- What compressed clusters hold. Each is a stream of its own.
 -- SPDX-License-Identifier: MIT
-use Rattle.std.specs.Prelude.{◌≡◌, ◌⊎◌, ℕ, Bool, true, false, List, slice_index, map}
+use Rattle.std.specs.Prelude.{◌≡◌, ◌⊎◌, ℕ, Bool, true, false, List, slice_index}
 use Rattle.std.specs.Prelude.{Result, Ok, Err, IsOk, IsErr, Option, Some, None}
-use Rattle.std.specs.List.{range_with_len}
+use Rattle.imago_storage.specs.Bytes.{bytes_at}
 use Rattle.imago_storage.specs.declared.error.Error.{Error}
 use Rattle.imago_drivers.specs.Place.{Value, Byte, Unreadable, HasValues}
 use Rattle.imago_inflate.specs.declared.fault.InflateError.{InflateError}
 use Rattle.imago_inflate.specs.Inflate.{inflated}
 use Rattle.imago_qcow2.specs.declared.header.Compression.{Compression}
 use Rattle.imago_qcow2.specs.declared.header.Compression.TheVariants as By
-
--- the n bytes of a file from an offset on, 0 past its end
-abbrev pub bytes_at : List ℕ → ℕ → ℕ → List ℕ
-bytes_at bytes at n = map (slice_index bytes) (range_with_len at n)
 
 -- what stands at an index of what a stream puts out: nothing that can be read where it is faulty
 abbrev pub value_in : Result (List ℕ) InflateError → ℕ → Value

@@ -4,6 +4,7 @@ use Rattle.std.specs.Prelude.{nat_lt, refl, Result, Ok, Err}
 use Rattle.std.proofs.Common.{arith, sym, ap, ◌∙◌, ⊎_elim, inl, inr}
 use Rattle.std.proofs.lemmas.Bool.{cases_lt}
 use Rattle.std.proofs.lemmas.Bool.Decides.{nat_tests}
+use Rattle.imago_storage.specs.Bytes.{bytes_at}
 use Rattle.imago_storage.specs.declared.error.Error.{Error}
 use Rattle.imago_storage.specs.declared.error.Error.TheVariants as E
 use Rattle.imago_storage.specs.Features.{Features}
@@ -18,7 +19,7 @@ use Rattle.imago_inflate.specs.declared.fault.InflateError.{InflateError}
 use Rattle.imago_inflate.specs.Inflate.{inflated}
 use Rattle.imago_qcow2.specs.declared.header.Compression.{Compression}
 use Rattle.imago_qcow2.specs.declared.header.Compression.TheVariants as By
-use Rattle.imago_qcow2.specs.Compressed.{bytes_at, value_in, packed_value}
+use Rattle.imago_qcow2.specs.Compressed.{value_in, packed_value}
 use Rattle.imago_qcow2.specs.Entry.{disk_size, GuestDisk, place_by, disk_place, disk_of}
 use Rattle.imago_qcow2.specs.Entry.{qcow2_place}
 use Rattle.imago_qcow2.specs.Tables.{LoadedImage, loaded_disk, loaded_place}

@@ -8,8 +8,7 @@ use Rattle.std.proofs.Math.Pow.{pow_mono}
 use Rattle.std.proofs.lemmas.List.{get_or_past}
 use Rattle.std.proofs.lemmas.List.FromFn.{length-map-range_with_len, get_or-map-range_with_len}
 use Rattle.imago_storage.specs.declared.error.Error.{Error}
-use Rattle.imago_storage.specs.Bytes.{IsReadAt}
-use Rattle.imago_plan.specs.PieceBytes.{bytes_at}
+use Rattle.imago_storage.specs.Bytes.{IsReadAt, bytes_at}
 use Rattle.imago_qcow2.specs.declared.header.Header.{Header}
 use Rattle.imago_qcow2.specs.declared.entry.L2Table.{L2Table}
 use Rattle.imago_qcow2.specs.Numbers.{be32, be64}
@@ -18,10 +17,10 @@ use Rattle.imago_qcow2.specs.Header.{and_then, magic_fault, support_fault, bound
 use Rattle.imago_qcow2.specs.Disk.{HaveSameTables, AreSameBytes}
 use Rattle.imago_qcow2.proofs.NumberSteps.{range32, range64}
 use Rattle.imago_qcow2.proofs.HeaderSteps.{same32, header_same}
-use Rattle.imago_loaded.specs.declared.loaded.LoadedFile.{LoadedFile}
-use Rattle.imago_loaded.specs.Loaded.{loaded_bytes, AreThere, Keeps}
-use Rattle.imago_loaded.proofs.LoadedSteps.{byte_at, there_stays}
-use Rattle.imago_loaded.proofs.TableSteps.{front_same}
+use Rattle.imago_session.specs.declared.loaded.LoadedFile.{LoadedFile}
+use Rattle.imago_session.specs.Loaded.{loaded_bytes, AreThere, Keeps}
+use Rattle.imago_session.proofs.LoadedSteps.{byte_at, there_stays}
+use Rattle.imago_session.proofs.TableSteps.{front_same}
 use Rattle.imago_session.specs.declared.loading.Tables.{Tables}
 use Rattle.imago_session.specs.declared.loading.Loading.{Loading}
 use Rattle.imago_session.specs.Blocks.{IsPartOf}

@@ -27,9 +27,9 @@ use Rattle.imago_qcow2.proofs.NumberSteps.{range64}
 use Rattle.imago_qcow2.proofs.ToldSteps.{places_told, cluster_told, size_told}
 use Rattle.imago_any_driver.specs.AnyDriver.{view_over}
 use Rattle.imago_any_driver.specs.declared.any.AnyDriver.TheVariants as Of
-use Rattle.imago_loaded.specs.Features.{loaded_features}
-use Rattle.imago_loaded.specs.declared.loaded.LoadedFile.{LoadedFile}
-use Rattle.imago_loaded.specs.Loaded.{loaded_bytes}
+use Rattle.imago_session.specs.Features.{loaded_features}
+use Rattle.imago_session.specs.declared.loaded.LoadedFile.{LoadedFile}
+use Rattle.imago_session.specs.Loaded.{loaded_bytes}
 use Rattle.imago_session.proofs.PlaceSteps.{IsNoSpecial, same_place, same_clusters}
 use Rattle.imago_session.specs.Files.{File, Layer, described_by, IsOver, AreLayersOf, AreBelow, described_value, described_below, size_by, size_read}
 use Rattle.imago_session.specs.Opening.{source_byte}

@@ -1,6 +1,7 @@
 -- SPDX-License-Identifier: MIT
+pub mod LoadedSteps
+pub mod TableSteps
 pub mod ReadSteps
-pub mod FormatSteps
 pub mod KnownSteps
 pub mod PlaceSteps
 pub mod LayerSteps

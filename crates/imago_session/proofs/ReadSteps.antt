@@ -8,15 +8,17 @@ use Rattle.std.proofs.lemmas.Bool.{cases_lt, lt-ltb, le-ltb}
 use Rattle.std.proofs.lemmas.Grind.{same_number_lists}
 use Rattle.std.proofs.lemmas.List.FromFn.{length-map-range_with_len, get_or-map-range_with_len}
 use Rattle.std.proofs.Math.Nat.{div-mul-le_self, mul-le-mul_right}
-use Rattle.imago_storage.specs.Bytes.{IsReadAt}
-use Rattle.imago_plan.specs.PieceBytes.{bytes_at}
+use Rattle.imago_storage.specs.Bytes.{IsReadAt, bytes_at}
 use Rattle.imago_qcow2.specs.declared.entry.L2Table.{L2Table}
 use Rattle.imago_qcow2.specs.Entry.{table_in_entry, low, high}
-use Rattle.imago_loaded.specs.declared.loaded.LoadedFile.{LoadedFile}
-use Rattle.imago_loaded.specs.Loaded.{loaded_bytes, HasBytesOf, AreThere}
-use Rattle.imago_loaded.proofs.LoadedSteps.{loaded_length, same_byte, same_range}
-use Rattle.imago_loaded.proofs.TableSteps.{front_same}
+use Rattle.imago_session.specs.declared.loaded.LoadedFile.{LoadedFile}
+use Rattle.imago_session.specs.Loaded.{loaded_bytes, HasBytesOf, AreThere}
+use Rattle.imago_session.proofs.LoadedSteps.{loaded_length, same_byte, same_range}
+use Rattle.imago_session.proofs.TableSteps.{front_same}
+use Rattle.imago_session.specs.declared.block.Step.{Step}
+use Rattle.imago_session.specs.declared.block.Step.TheVariants as S
 use Rattle.imago_session.specs.Blocks.{IsPartOf}
+use Rattle.imago_session.specs.Steps.{IfReady}
 
 -- a part that was read whose blocks are in memory
 pub read_is : (file : List ℕ) (f : LoadedFile) (at n : ℕ) (xs : List ℕ) → HasBytesOf file f → length file ≡ f.length → 0 < f.block → AreThere f at n
@@ -80,6 +82,10 @@ pub if_ok_more : {A E : Type 0} (r : Result A E) (P Q : A → Type 0) → IfOk r
 if_ok_more (Ok x) P Q h f = f x h
 if_ok_more (Err e) P Q h f = tt
 
+-- what a step found
+pub if_ready : {T : Type 0} (s : Step T) (x : T) (P : T → Type 0) → s ≡ S.Ready x → IfReady P s → P x
+if_ready {T} s x P is h = subst (λ (q : Step T). IfReady P q) is h
+
 -- a table that an L1 entry names lies in the file
 stored_inside : (file cluster at start : ℕ) → (if nat_lt file (start + cluster) then L2Table.Invalid else L2Table.Stored start) ≡ L2Table.Stored at → at + cluster ≤ file
 stored_inside file cluster at start is = ⊎_elim
@@ -107,3 +113,7 @@ table_inside file cluster entry at is =
 pub if_err_more : {A E : Type 0} (r : Result A E) (P Q : E → Type 0) → IfErr r P → ((e : E) → P e → Q e) → IfErr r Q
 if_err_more (Ok x) P Q h f = tt
 if_err_more (Err e) P Q h f = f e h
+
+-- what follows of a refusal that is passed on
+pub passed_on : {A E : Type 0} (r : Result A E) (y e : E) (P : E → Type 0) → r ≡ Err y → y ≡ e → P e → IfErr r P
+passed_on {A} {E} r y e P is same h = subst (λ (q : Result A E). IfErr q P) (sym is) (subst P (sym same) h)

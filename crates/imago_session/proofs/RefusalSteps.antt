@@ -1,42 +1,37 @@
 -- Why files of which only a part is in memory aren't opened.
 -- SPDX-License-Identifier: MIT
-use Rattle.std.proofs.Common.{◌≡◌, ℕ, zero, suc, ◌+◌, ◌-◌, ◌*◌, ◌/◌, ◌%◌, ◌^◌, ◌<◌, ◌≤◌, inl, inr, ◌⊎◌, ⊎_elim, List, [], ◌∷◌, length, map, min, Option, Some, None, Result, Ok, Err, Bool, true, false, true≢false, refl, sym, ap, subst, ◌∙◌, arith}
-use Rattle.std.specs.Prelude.{slice_index, nat_lt, nat_eq, not, ◌||◌, ◌&&◌, if◌then◌else◌, IsTrue}
-use Rattle.std.specs.Int.{next_multiple_of, div_ceil}
-use Rattle.std.specs.String.{string_bytes}
+use Rattle.std.proofs.Common.{◌≡◌, ℕ, zero, suc, ◌+◌, ◌-◌, ◌*◌, ◌/◌, ◌%◌, ◌^◌, ◌<◌, ◌≤◌, inl, inr, ◌⊎◌, ⊎_elim, List, [], ◌∷◌, length, map, min, Option, Some, None, Result, Ok, Err, Bool, true, false, true≢false, refl, sym, ap, ◌∙◌, arith}
+use Rattle.std.specs.Prelude.{nat_lt, nat_eq, not, ◌||◌, ◌&&◌, if◌then◌else◌}
+use Rattle.std.specs.Int.{next_multiple_of}
 use Rattle.std.proofs.lemmas.Bool.{cases_lt, lt-ltb, le-ltb}
 use Rattle.std.proofs.Math.Nat.{mod-lt, mul-pos}
-use Rattle.std.proofs.Math.Pow.{pow_mono}
 use Rattle.imago_storage.specs.declared.error.Error.{Error}
 use Rattle.imago_storage.specs.declared.error.Error.TheVariants as E
-use Rattle.imago_storage.specs.Error.{IsExtRefusal}
-use Rattle.imago_storage.specs.Features.{IsAlignedRequest, MayRunOut}
 use Rattle.imago_storage.specs.Padding.{Wraps}
 use Rattle.imago_storage.proofs.Padding.{next_below}
-use Rattle.imago_drivers.specs.Reasons.{Reasons, none, allowed}
+use Rattle.imago_drivers.specs.Reasons.{none, allowed}
 use Rattle.imago_vmdk.specs.declared.line.Accepted.{Accepted}
 use Rattle.imago_vmdk.specs.declared.line.Extent.{Extent}
 use Rattle.imago_vmdk.specs.Line.{extent_with}
-use Rattle.imago_vmdk.specs.Vmdk.{text_reasons}
-use Rattle.imago_vmdk.specs.Reading.{reading_of, is_length}
+use Rattle.imago_vmdk.specs.Reading.{reading_of}
 use Rattle.imago_qcow2.specs.declared.header.Header.{Header}
 use Rattle.imago_qcow2.specs.Numbers.{be32, be64}
 use Rattle.imago_qcow2.specs.Entry.{cluster_length}
-use Rattle.imago_qcow2.specs.Header.{header_of, own_length, and_then, magic_fault, support_fault, bounds_fault}
-use Rattle.imago_qcow2.specs.Backing.{format_by, format_from, format_of, extensions_end, backing_format, IsFormatRefusal, extension_reasons}
+use Rattle.imago_qcow2.specs.Header.{header_of, own_length}
+use Rattle.imago_qcow2.specs.Backing.{format_by, format_from, format_of, extensions_end, backing_format, IsFormatRefusal}
 use Rattle.imago_qcow2.specs.Disk.{HaveSameTables, AreSameBytes}
-use Rattle.imago_qcow2.specs.Opening.{read_reasons, start_reasons, tables_reasons, IsRefusedOpening, EntryWraps}
+use Rattle.imago_qcow2.specs.Opening.{start_reasons, tables_reasons, IsRefusedOpening, EntryWraps}
 use Rattle.imago_qcow2.specs.Tables.{IsHeadRead, IsAccepted, AreEntriesRead, header_tables, header_cluster}
 use Rattle.imago_qcow2.proofs.NumberSteps.{range32, range64}
 use Rattle.imago_qcow2.proofs.HeaderSteps.{header_same, head_same}
 use Rattle.imago_qcow2.proofs.HeldSteps.{enough}
-use Rattle.imago_loaded.specs.Features.{loaded_features}
+use Rattle.imago_session.specs.Features.{loaded_features}
 use Rattle.imago_drivers.specs.declared.format.Format.{Format}
 use Rattle.imago_any_driver.specs.declared.any.AnyDriver.TheVariants as Of
 use Rattle.imago_qcow2.specs.Qcow2Image.{storage_in}
-use Rattle.imago_loaded.specs.Loaded.{loaded_bytes}
+use Rattle.imago_session.specs.Loaded.{loaded_bytes}
 use Rattle.imago_session.specs.Files.{File, Layer, IsFormatOf, IsLayerOf}
-use Rattle.imago_session.specs.Refusals.{is_far, has_far, HasFaultyFormat, IsFaultOrMemory, IsCause, IsLayerRefusal}
+use Rattle.imago_session.specs.Refusals.{has_far, HasFaultyFormat, IsFaultOrMemory, IsForeignOrMemory, IsCause, IsLayerRefusal}
 use Rattle.imago_session.proofs.ReadSteps.{table_inside}
 
 -- a request for bytes of a file in memory that ends in 64 bits isn't refused for its end
@@ -62,14 +57,6 @@ memory_alone cause memory never E.Memory h = refl
 memory_alone cause memory never E.ForeignMapping h = absurd h
 memory_alone cause memory never E.Denied h = absurd h
 memory_alone cause memory never E.NotFound h = absurd h
-
-pub read_refused : (at n : ℕ) (memory : Type 0) → at + n < 2 ^ 64 → (e : Error)
-    → allowed (record (read_reasons loaded_features at n) { memory = memory }) e → e ≡ Error.Memory
-read_refused at n memory fits = memory_alone (λ (e : Error). (e ≡ Error.WrapAround) × Wraps loaded_features at n) memory (λ e h. no_wrap at n fits h.1)
-
-pub text_refused : (n : ℕ) → n < 2 ^ 64 → (e : Error) → allowed (text_reasons loaded_features n) e → e ≡ Error.Memory
-text_refused n fits = memory_alone (λ (e : Error). (e ≡ Error.WrapAround) × (is_length n ≡ true) × Wraps loaded_features 0 n) ((is_length n ≡ true) ⊎ MayRunOut loaded_features.other_memory 0 0)
-    (λ e (w : (e ≡ Error.WrapAround) × (is_length n ≡ true) × Wraps loaded_features 0 n). no_wrap 0 n (omega (arith, fits)) w.2)
 
 -- an image isn't opened for its header's fault, or for memory
 abbrev TablesWrap : List ℕ → Header → Type 0
@@ -182,7 +169,12 @@ format_refused cluster says e small (inr r) = inl (memory_alone (λ (x : Error).
 -- a fault in a file's own format is a cause
 pub cause_of : (accepted : Accepted) (f : File) (format : Format) (e : Error) → IsFormatOf f format → IsFaultOrMemory accepted f.bytes format e → IsCause accepted f e
 cause_of accepted f format e is (inl memory) = inl memory
-cause_of accepted f format e is (inr fault) = inr (format, is, fault)
+cause_of accepted f format e is (inr fault) = inr (inl (format, is, fault))
+
+-- and so is that it is recognised as what isn't opened
+pub foreign_cause : (accepted : Accepted) (f : File) (said : Option Format) (e : Error) → f.format ≡ said → IsForeignOrMemory said f.bytes e → IsCause accepted f e
+foreign_cause accepted f said e says (inl memory) = inl memory
+foreign_cause accepted f said e says (inr foreign) = inr (inr (says ∙ foreign.0, foreign.1, foreign.2))
 
 -- and so is what a layer's file is refused for that names one below
 abbrev pub IsBelowRefused : Layer → List ℕ → Error → Type 0
@@ -195,7 +187,7 @@ IsBelowRefused (Of.Qcow2 q) bytes e =
 
 qcow2_cause : (accepted : Accepted) (f : File) (e : Error) → IsFormatOf f Format.Qcow2 → (e ≡ Error.Memory) ⊎ HasFaultyFormat f.bytes e → IsCause accepted f e
 qcow2_cause accepted f e is (inl memory) = inl memory
-qcow2_cause accepted f e is (inr fault) = inr (Format.Qcow2, is, inr fault)
+qcow2_cause accepted f e is (inr fault) = inr (inl (Format.Qcow2, is, inr fault))
 
 pub below_cause : (accepted : Accepted) (f : File) (d : Layer) (e : Error) → IsLayerOf accepted d f → IsBelowRefused d f.bytes e → IsCause accepted f e
 below_cause accepted f (Of.Raw r) e of h = absurd h

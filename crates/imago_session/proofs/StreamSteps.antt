@@ -5,8 +5,8 @@ use Rattle.std.specs.Prelude.{slice_index, IfSome}
 use Rattle.std.proofs.lemmas.Grind.{div_ceil_times}
 use Rattle.std.proofs.lemmas.Nat.{div_below}
 use Rattle.std.proofs.Math.Nat.{div-div-eq-div-mul, mul-pos, mod-lt}
-use Rattle.imago_drivers.specs.Place.{Value, Place, Lower, Special, shown}
-use Rattle.imago_access.specs.declared.access.FormatAccess.{FormatAccess, FormatAccess', Held-FormatAccess-backing, out-FormatAccess, is-FormatAccess', back-FormatAccess-backing}
+use Rattle.imago_drivers.specs.Place.{Value, Lower, Special, shown}
+use Rattle.imago_access.specs.declared.access.FormatAccess.{FormatAccess, out-FormatAccess, is-FormatAccess', back-FormatAccess-backing}
 use Rattle.imago_access.specs.Chain.{driver, backing, unboxed}
 use Rattle.imago_vmdk.specs.declared.line.Accepted.{Accepted}
 use Rattle.imago_qcow2.specs.declared.entry.L2Table.{L2Table}

@@ -1,8 +1,8 @@
 -- What is in memory of a file, block by block.
 -- SPDX-License-Identifier: MIT
 use Rattle.std.specs.Prelude.{◌≡◌, ℕ, ◌*◌, ◌<◌, List, length}
-use Rattle.imago_loaded.specs.declared.loaded.LoadedFile.{LoadedFile}
-use Rattle.imago_loaded.specs.Loaded.{file_length, block_length, HasBytesOf, IsThere}
+use Rattle.imago_session.specs.declared.loaded.LoadedFile.{LoadedFile}
+use Rattle.imago_session.specs.Loaded.{file_length, block_length, HasBytesOf, IsThere}
 
 -- the block of that number isn't in memory, and begins inside the file
 abbrev pub IsMissing : LoadedFile → ℕ → Type 0

@@ -8,28 +8,28 @@ use Rattle.imago_drivers.specs.Place.{Value, Byte, Place, End, shown}
 use Rattle.imago_drivers.specs.Raw.{raw_place}
 use Rattle.imago_drivers.specs.RawImage.{size_of}
 use Rattle.imago_drivers.specs.declared.format.Format.{Format}
+use Rattle.imago_formats.specs.declared.signature.Signature.{Signature}
+use Rattle.imago_formats.specs.declared.signature.Signature.TheVariants as As
+use Rattle.imago_formats.specs.Signatures.{signature_of}
 use Rattle.imago_vmdk.specs.declared.line.Accepted.{Accepted}
 use Rattle.imago_vmdk.specs.declared.line.Extent.{Extent}
 use Rattle.imago_vmdk.specs.Disk.{described_place}
 use Rattle.imago_vmdk.specs.Image.{descriptor_in, is_opened, accepted_in}
-use Rattle.imago_vmdk.specs.Probe.{probe_of as vmdk_probe}
 use Rattle.imago_vmdk.specs.Reading.{reading_of}
 use Rattle.imago_qcow2.specs.Disk.{HaveSameTables, AreSameBytes}
 use Rattle.imago_qcow2.specs.Entry.{cluster_length, disk_size, qcow2_place}
 use Rattle.imago_qcow2.specs.Numbers.{be32, be64}
-use Rattle.imago_qcow2.specs.Opening.{probe_of as qcow2_probe}
 use Rattle.imago_qcow2.specs.Qcow2Image.{storage_in}
-use Rattle.imago_plan.specs.PieceBytes.{bytes_at}
-use Rattle.imago_any_driver.specs.AnyDriver.{detected}
+use Rattle.imago_storage.specs.Bytes.{bytes_at}
 use Rattle.imago_any_driver.specs.declared.any.AnyDriver.{AnyDriver}
 use Rattle.imago_any_driver.specs.declared.any.AnyDriver.TheVariants as Of
 use Rattle.imago_access.specs.declared.access.FormatAccess.{FormatAccess, FormatAccess'}
 use Rattle.imago_access.specs.declared.access.FormatAccess.{Held-FormatAccess-backing, None', Some'}
 use Rattle.imago_access.specs.Chain.{driver}
-use Rattle.imago_loaded.specs.contracts.loaded.LoadedFileStorage.TheImpl as storage
-use Rattle.imago_loaded.specs.contracts.loaded.LoadedFileDisplay.TheImpl as display
-use Rattle.imago_loaded.specs.declared.loaded.LoadedFile.{LoadedFile}
-use Rattle.imago_loaded.specs.Loaded.{loaded_bytes}
+use Rattle.imago_session.specs.contracts.loaded.LoadedFileStorage.TheImpl as storage
+use Rattle.imago_session.specs.contracts.loaded.LoadedFileDisplay.TheImpl as display
+use Rattle.imago_session.specs.declared.loaded.LoadedFile.{LoadedFile}
+use Rattle.imago_session.specs.Loaded.{loaded_bytes}
 
 -- A file as the caller has it: its bytes, and the format that the caller says it has, if it says
 -- one.
@@ -37,9 +37,17 @@ pub record File : Type 0 where
   pub bytes : List ℕ
   pub format : Option Format
 
+-- The format that is told by what a file is recognised as: that of a qcow2 image, of a VMDK
+-- descriptor, or of a raw disk where it is recognised as nothing. Files of other kinds have none.
+abbrev pub format_told : Option Signature → Option Format
+format_told None = Some Format.Raw
+format_told (Some As.Qcow2) = Some Format.Qcow2
+format_told (Some As.Descriptor) = Some Format.Vmdk
+format_told (Some other) = None
+
 -- the format of a file: the one that is said, or the one that its bytes are recognised as
 abbrev pub IsFormatBy : Option Format → List ℕ → Format → Type 0
-IsFormatBy None bytes format = format ≡ detected qcow2_probe vmdk_probe bytes
+IsFormatBy None bytes format = format_told (signature_of bytes) ≡ Some format
 IsFormatBy (Some said) bytes format = format ≡ said
 
 abbrev pub IsFormatOf : File → Format → Type 0

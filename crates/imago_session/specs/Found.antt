@@ -3,9 +3,9 @@
 use Rattle.std.specs.Prelude.{◌≡◌, ℕ, ◌-◌, ◌*◌, List, map, min}
 use Rattle.std.specs.String.{string_bytes}
 use Rattle.imago_vmdk.specs.declared.line.Accepted.{Accepted}
-use Rattle.imago_plan.specs.PieceBytes.{bytes_at}
-use Rattle.imago_loaded.specs.declared.loaded.LoadedFile.{LoadedFile}
-use Rattle.imago_loaded.specs.Loaded.{file_length, block_length, Loads}
+use Rattle.imago_storage.specs.Bytes.{bytes_at}
+use Rattle.imago_session.specs.declared.loaded.LoadedFile.{LoadedFile}
+use Rattle.imago_session.specs.Loaded.{file_length, block_length, Loads}
 use Rattle.imago_session.specs.declared.loading.Loading.{Loading}
 use Rattle.imago_session.specs.declared.layer.Found.{Found}
 use Rattle.imago_session.specs.declared.layer.Found.TheVariants as F

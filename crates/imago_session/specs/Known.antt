@@ -3,10 +3,10 @@
 use Rattle.std.specs.Prelude.{◌≡◌, ℕ, ◌*◌, List, Option, Some, None, min}
 use Rattle.imago_qcow2.specs.Entry.{cluster_length, l1_start}
 use Rattle.imago_qcow2.specs.Opening.{table_count}
-use Rattle.imago_plan.specs.PieceBytes.{bytes_at}
-use Rattle.imago_loaded.specs.declared.loaded.LoadedFile.{LoadedFile}
-use Rattle.imago_loaded.specs.Loaded.{file_length, AreThere}
-use Rattle.imago_loaded.specs.Tables.{AreLoaded}
+use Rattle.imago_storage.specs.Bytes.{bytes_at}
+use Rattle.imago_session.specs.declared.loaded.LoadedFile.{LoadedFile}
+use Rattle.imago_session.specs.Loaded.{file_length, AreThere}
+use Rattle.imago_session.specs.Tables.{AreLoaded}
 use Rattle.imago_session.specs.declared.loading.Tables.{Tables}
 
 -- What is known of a qcow2 file's tables is so: the header's say of the L1 table, and its entries.

@@ -1,4 +1,7 @@
 -- SPDX-License-Identifier: MIT
+pub mod Features
+pub mod Loaded
+pub mod Tables
 pub mod Steps
 pub mod Blocks
 pub mod Known

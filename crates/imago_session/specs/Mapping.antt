@@ -1,6 +1,6 @@
 -- What is told of where bytes of an image's disk are.
 -- SPDX-License-Identifier: MIT
-use Rattle.std.specs.Prelude.{◌≡◌, ℕ, ◌≤◌}
+use Rattle.std.specs.Prelude.{ℕ, ◌≤◌}
 use Rattle.imago_access.specs.declared.access.FormatAccess.{FormatAccess}
 use Rattle.imago_access.specs.Target.{Target}
 use Rattle.imago_plan.specs.Pieces.{IsPieceAt}

@@ -9,7 +9,7 @@ use Rattle.imago_vmdk.specs.declared.line.Accepted.{Accepted}
 use Rattle.imago_plan.specs.declared.piece.Piece.{Piece}
 use Rattle.imago_plan.specs.declared.piece.Source.{Source}
 use Rattle.imago_plan.specs.declared.piece.Source.TheVariants as From
-use Rattle.imago_plan.specs.PieceBytes.{bytes_at}
+use Rattle.imago_storage.specs.Bytes.{bytes_at}
 use Rattle.imago_access.specs.declared.access.FormatAccess.{FormatAccess}
 use Rattle.imago_session.specs.declared.session.State.{State}
 use Rattle.imago_session.specs.declared.session.State.TheVariants as S
@@ -18,7 +18,7 @@ use Rattle.imago_session.specs.declared.session.Want.{Want}
 use Rattle.imago_session.specs.declared.session.Want.TheVariants as W
 use Rattle.imago_session.specs.Files.{File, Layer, AreAbove, AreLayersOf, described_value}
 use Rattle.imago_session.specs.Files.{backing_name, names_in, layers_in}
-use Rattle.imago_loaded.specs.Loaded.{Loads}
+use Rattle.imago_session.specs.Loaded.{Loads}
 use Rattle.imago_session.specs.declared.layer.Found.{Found}
 use Rattle.imago_session.specs.declared.layer.Found.TheVariants as F
 use Rattle.imago_session.specs.Blocks.{IsMissing}

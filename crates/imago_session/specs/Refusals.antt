@@ -1,17 +1,18 @@
 -- Why a file that is given isn't opened: what its faults are, each with its refusal.
 -- SPDX-License-Identifier: MIT
 use Rattle.std.specs.Prelude.{◌≡◌, ℕ, ◌*◌, ◌^◌, ◌≤◌, ◌⊎◌, List, [], ◌∷◌, length, Result, Ok, Err}
-use Rattle.std.specs.Prelude.{Bool, true, false, not, ◌||◌, nat_lt}
+use Rattle.std.specs.Prelude.{Bool, true, false, not, ◌||◌, nat_lt, Option, None}
 use Rattle.imago_storage.specs.declared.error.Error.{Error}
 use Rattle.imago_drivers.specs.declared.format.Format.{Format}
 use Rattle.imago_drivers.specs.declared.format.Format.TheVariants as Of
+use Rattle.imago_formats.specs.Signatures.{signature_of}
 use Rattle.imago_vmdk.specs.declared.line.Accepted.{Accepted}
 use Rattle.imago_vmdk.specs.declared.line.Extent.{Extent}
 use Rattle.imago_vmdk.specs.Reading.{reading_of}
 use Rattle.imago_qcow2.specs.Backing.{format_of}
 use Rattle.imago_qcow2.specs.Header.{header_of}
 use Rattle.imago_session.specs.declared.session.Session.{Session}
-use Rattle.imago_session.specs.Files.{File, IsFormatOf, HasBacking}
+use Rattle.imago_session.specs.Files.{File, IsFormatOf, HasBacking, format_told}
 
 -- an extent begins in its file at an offset that doesn't fit 64 bits
 abbrev pub is_far : {N : Type 0} → Extent N → Bool
@@ -49,11 +50,22 @@ IsFault accepted bytes Of.Qcow2 e =
 abbrev pub IsFaultOrMemory : Accepted → List ℕ → Format → Error → Type 0
 IsFaultOrMemory accepted bytes format e = (e ≡ Error.Memory) ⊎ IsFault accepted bytes format e
 
--- why a file isn't opened: no memory, or its fault in its own format
+-- A file of which no format is said is recognised as what isn't opened, such as an image of another
+-- format or an archive.
+abbrev pub IsForeign : Option Format → List ℕ → Error → Type 0
+IsForeign said bytes e =
+    (said ≡ None) × (format_told (signature_of bytes) ≡ None) × (e ≡ Error.Unsupported)
+
+-- the same, or no memory
+abbrev pub IsForeignOrMemory : Option Format → List ℕ → Error → Type 0
+IsForeignOrMemory said bytes e = (e ≡ Error.Memory) ⊎ IsForeign said bytes e
+
+-- why a file isn't opened: no memory, its fault in its own format, or that it has none of them
 abbrev pub IsCause : Accepted → File → Error → Type 0
 IsCause accepted f e =
     (e ≡ Error.Memory)
-    ⊎ ((format : Format) × IsFormatOf f format × IsFault accepted f.bytes format e)
+    ⊎ (((format : Format) × IsFormatOf f format × IsFault accepted f.bytes format e)
+    ⊎ IsForeign f.format f.bytes e)
 
 -- the most layers that an image has
 abbrev pub most_layers : ℕ

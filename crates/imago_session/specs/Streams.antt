@@ -4,7 +4,7 @@ use Rattle.std.specs.Prelude.{◌≡◌, ℕ, ◌+◌, ◌<◌, ◌≤◌}
 use Rattle.imago_drivers.specs.Place.{Value}
 use Rattle.imago_inflate.specs.Inflate.{inflated}
 use Rattle.imago_qcow2.specs.Compressed.{value_in}
-use Rattle.imago_plan.specs.PieceBytes.{bytes_at}
+use Rattle.imago_storage.specs.Bytes.{bytes_at}
 use Rattle.imago_access.specs.declared.access.FormatAccess.{FormatAccess}
 use Rattle.imago_session.specs.declared.compressed.Compressed.{Compressed}
 use Rattle.imago_session.specs.Files.{File, Layer, described_value}

@@ -2,10 +2,10 @@
 //! Which block of a file has to be in memory next.
 ghost use Rattle.std.specs.Prelude.{◌≡◌, ◌+◌, ◌^◌, ◌<◌, ◌≤◌, length, None, IfOk, IfErr, IfSome};
 ghost use Rattle.imago_storage.specs.Bytes.{IsReadAt};
-ghost use Rattle.imago_loaded.specs.Loaded.{loaded_bytes, file_length, AreThere};
+ghost use Rattle.imago_session.specs.Loaded.{loaded_bytes, file_length, AreThere};
 ghost use Rattle.imago_session.specs.Blocks.{IsMissing};
 
-use imago_loaded::loaded::LoadedFile;
+use crate::loaded::LoadedFile;
 use imago_storage::error::Error;
 use imago_storage::storage::Storage;
 use std::alloc::Global;

@@ -8,14 +8,14 @@ ghost use Rattle.imago_qcow2.specs.Compressed.{packed_value};
 ghost use Rattle.imago_qcow2.specs.Disk.{HaveSameTables};
 ghost use Rattle.imago_qcow2.specs.Entry.{place_by, qcow2_place};
 ghost use Rattle.imago_qcow2.specs.Qcow2Image.{storage_in};
-ghost use Rattle.imago_loaded.specs.Loaded.{loaded_bytes};
+ghost use Rattle.imago_session.specs.Loaded.{loaded_bytes};
 ghost use Rattle.imago_session.specs.Files.{File, IsOver, AreLayersOf, described_by};
 ghost use Rattle.imago_session.specs.Streams.{IsPartOfCluster, ShowsStream};
 
 use crate::layer::Layer;
+use crate::loaded::LoadedFile;
 use imago_access::access::FormatAccess;
 use imago_any_driver::any::AnyDriver;
-use imago_loaded::loaded::LoadedFile;
 use imago_qcow2::entry::GuestCluster;
 use imago_qcow2::header::Compression;
 use imago_qcow2::laws::image_of_bytes;

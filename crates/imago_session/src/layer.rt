@@ -1,6 +1,6 @@
 // SPDX-License-Identifier: MIT
 //! The layers of images, over files of which only what is needed is in memory.
-ghost use Rattle.std.specs.Prelude.{◌≡◌, ℕ, ◌+◌, ◌^◌, ◌<◌, ◌≤◌, List, Option, None, true};
+ghost use Rattle.std.specs.Prelude.{◌≡◌, ℕ, ◌+◌, ◌^◌, ◌<◌, ◌≤◌, List, Option, Some, None, true};
 ghost use Rattle.std.specs.Prelude.{map, length};
 ghost use Rattle.std.specs.Prelude.{◌++◌, IfOk, IfErr, OnOk, IfSome, IsOk};
 ghost use Rattle.std.specs.List.{flat_map};
@@ -8,29 +8,29 @@ ghost use Rattle.std.specs.String.{string_bytes};
 ghost use Rattle.imago_drivers.specs.declared.format.Format.{Format};
 ghost use Rattle.imago_vmdk.specs.Image.{descriptor_in, is_opened, accepted_in};
 ghost use Rattle.imago_vmdk.specs.Line.{extent_with};
-ghost use Rattle.imago_vmdk.specs.Probe.{probe_of as vmdk_probe};
-ghost use Rattle.imago_qcow2.specs.Opening.{probe_of as qcow2_probe};
-ghost use Rattle.imago_any_driver.specs.AnyDriver.{detected};
-ghost use Rattle.imago_loaded.specs.Loaded.{file_length, AreThere};
+ghost use Rattle.imago_storage.specs.Bytes.{bytes_at};
+ghost use Rattle.imago_formats.specs.Signatures.{told_by_first, told_by_last, signature_of};
+ghost use Rattle.imago_formats.specs.Signatures.{first_block, last_block};
+ghost use Rattle.imago_session.specs.Loaded.{file_length};
 ghost use Rattle.imago_session.specs.Blocks.{IsMissing, IsPartOf};
 ghost use Rattle.imago_session.specs.Known.{AreKnownOf};
-ghost use Rattle.imago_session.specs.Files.{File, IsFormatBy, file_name};
+ghost use Rattle.imago_session.specs.Files.{File, IsFormatBy, file_name, format_told};
 ghost use Rattle.imago_session.specs.Found.{IsFoundOf, IsLoadingOf, IsBlockGiven};
 ghost use Rattle.imago_session.specs.Found.{block_start, block_count, IsFoundIn, IsFurther};
 ghost use Rattle.imago_session.specs.Refusals.{is_far as is_far_extent, has_far as has_far_extent};
-ghost use Rattle.imago_session.specs.Refusals.{IsFaultOrMemory, IsCause};
+ghost use Rattle.imago_session.specs.Refusals.{IsFaultOrMemory, IsForeignOrMemory, IsCause};
 ghost use Rattle.imago_session.specs.Steps.{IfMissing, IfReady};
 
 use crate::block::{BLOCK, Step, first_missing, part};
+use crate::loaded::{LoadedFile, WholeBlocks};
 use crate::loading::{Loading, Tables};
 use crate::tables::{next_missing, tables_of};
 use imago_any_driver::any::AnyDriver;
 use imago_drivers::builder::FormatDriverBuilder;
-use imago_drivers::drivers::{Format, FormatDriverInstance};
+use imago_drivers::drivers::Format;
 use imago_drivers::gate::ImplicitOpenGate;
 use imago_drivers::raw::Raw;
-use imago_loaded::loaded::{LoadedFile, WholeBlocks};
-use imago_qcow2::header::HEAD_LENGTH;
+use imago_formats::signature::{self, Signature};
 use imago_qcow2::laws::same_tables_stand_alike;
 use imago_qcow2::qcow2::Qcow2;
 use imago_storage::error::Error;
@@ -72,50 +72,110 @@ pub(crate) enum Found {
     Layer(Layer, Vec<String>),
 }
 
-/// The first block of the file that isn't in memory, if the file may be a descriptor by its length.
-fn missing_text(file: &LoadedFile) -> Option<u64>
-    ensures there { result ≡ None → file_length file.now ≤ 2 ^ 21
-        → AreThere file.now 0 (file_length file.now) }
-    ensures missing { IfSome result (IsMissing file.now) }
+/// So many bytes of the file from the offset on, once they are in memory. Refused, it is
+/// [`Error::Memory`].
+fn block_at(alloc: Global, file: &LoadedFile, at: u64, count: u64) -> Result<Step<Vec<u8>>, Error>
+    requires inside { at + count ≤ file_length file.now }
+    requires fits { at + count < 2 ^ 64 }
+    ensures missing { IfOk result (IfMissing (IsMissing file.now)) }
+    ensures ready { IfOk result (IfReady (λ block. (bytes : List ℕ) → IsPartOf bytes file.now
+        → block.items ≡ bytes_at bytes at count)) }
+    ensures memory { IfErr result (λ e. e ≡ Error.Memory) }
 {
-    let length = file.length();
-    if length > LONGEST_DESCRIPTOR {
-        return None;
+    if let Some(number) = first_missing(file, at, count) {
+        return Ok(Step::Missing(number));
     }
-    first_missing(file, 0, length)
+    let block = part(alloc, file, at, count)?;
+    Ok(Step::Ready(block))
 }
 
-/// Which format the file is recognised as: qcow2 by its first bytes, else VMDK where the whole is
-/// the text of a descriptor, else raw. Refused, it is [`Error::Memory`].
+/// What the file is recognised as by its first 512 bytes, or by all of them if it is shorter.
+/// Refused, it is [`Error::Memory`].
+fn first_signature(alloc: Global, file: &LoadedFile) -> Result<Step<Option<Signature>>, Error>
+    ensures missing { IfOk result (IfMissing (IsMissing file.now)) }
+    ensures ready { IfOk result (IfReady (λ found. (bytes : List ℕ) → IsPartOf bytes file.now
+        → found ≡ told_by_first None (first_block bytes))) }
+    ensures memory { IfErr result (λ e. e ≡ Error.Memory) }
+{
+    let count = file.length().min(signature::BLOCK as u64);
+    match block_at(alloc, file, 0, count)? {
+        Step::Missing(number) => Ok(Step::Missing(number)),
+        Step::Ready(block) => Ok(Step::Ready(Signature::of_first(&block, None))),
+    }
+}
+
+/// The same by its last 512 bytes, if it has so many.
+fn last_signature(alloc: Global, file: &LoadedFile) -> Result<Step<Option<Signature>>, Error>
+    ensures missing { IfOk result (IfMissing (IsMissing file.now)) }
+    ensures ready { IfOk result (IfReady (λ found. (bytes : List ℕ) → IsPartOf bytes file.now
+        → found ≡ told_by_last None (last_block bytes))) }
+    ensures memory { IfErr result (λ e. e ≡ Error.Memory) }
+{
+    let count = signature::BLOCK as u64;
+    let length = file.length();
+    if length < count {
+        return Ok(Step::Ready(None));
+    }
+    match block_at(alloc, file, length - count, count)? {
+        Step::Missing(number) => Ok(Step::Missing(number)),
+        Step::Ready(block) => Ok(Step::Ready(Signature::of_last(&block, None))),
+    }
+}
+
+/// What the file is recognised as: by its first bytes, and only where they tell nothing by its last
+/// ones, which are asked for then. Refused, it is [`Error::Memory`].
+fn signature_in(alloc: Global, file: &LoadedFile) -> Result<Step<Option<Signature>>, Error>
+    ensures missing { IfOk result (IfMissing (IsMissing file.now)) }
+    ensures ready { IfOk result (IfReady (λ found. (bytes : List ℕ) → IsPartOf bytes file.now
+        → found ≡ signature_of bytes)) }
+    ensures memory { IfErr result (λ e. e ≡ Error.Memory) }
+{
+    match first_signature(alloc, file)? {
+        Step::Missing(number) => Ok(Step::Missing(number)),
+        Step::Ready(Some(found)) => Ok(Step::Ready(Some(found))),
+        Step::Ready(None) => last_signature(alloc, file),
+    }
+}
+
+/// The format of a file that is recognised as that, where nobody says it: a qcow2 image, a VMDK
+/// descriptor, or a raw disk where it is recognised as nothing. A file of another kind has none:
+/// who takes its bytes for those of a disk has to say so.
+fn format_for(found: Option<Signature>) -> Option<Format>
+    ensures { result ≡ format_told found }
+{
+    match found {
+        None => Some(Format::Raw),
+        Some(Signature::Qcow2) => Some(Format::Qcow2),
+        Some(Signature::Descriptor) => Some(Format::Vmdk),
+        Some(_) => None,
+    }
+}
+
+/// The format of a file of which none is said: [`Error::Unsupported`] where it is recognised as
+/// what isn't opened.
 fn recognised(alloc: Global, file: &LoadedFile) -> Result<Step<Format>, Error>
     ensures missing { IfOk result (IfMissing (IsMissing file.now)) }
     ensures ready { IfOk result (IfReady (λ f. (bytes : List ℕ) → IsPartOf bytes file.now
-        → f ≡ detected qcow2_probe vmdk_probe bytes)) }
-    ensures memory { IfErr result (λ e. e ≡ Error.Memory) }
+        → format_told (signature_of bytes) ≡ Some f)) }
+    ensures refused { IfErr result (λ e. (bytes : List ℕ) → IsPartOf bytes file.now
+        → IsForeignOrMemory None bytes e) }
 {
-    let length = file.length();
-    if let Some(number) = first_missing(file, 0, length.min(HEAD_LENGTH as u64)) {
-        return Ok(Step::Missing(number));
+    match signature_in(alloc, file)? {
+        Step::Missing(number) => Ok(Step::Missing(number)),
+        Step::Ready(found) => match format_for(found) {
+            Some(format) => Ok(Step::Ready(format)),
+            None => Err(Error::Unsupported),
+        },
     }
-    if Qcow2::probe(alloc, file)? {
-        return Ok(Step::Ready(Format::Qcow2));
-    }
-    if let Some(number) = missing_text(file) {
-        return Ok(Step::Missing(number));
-    }
-    if Vmdk::probe(alloc, file)? {
-        return Ok(Step::Ready(Format::Vmdk));
-    }
-    Ok(Step::Ready(Format::Raw))
 }
 
-/// The format of the file: the one that is said, or the one that it is recognised as. Refused, it
-/// is [`Error::Memory`].
+/// The format of the file: the one that is said, or the one that it is recognised as.
 fn format_of(alloc: Global, file: &LoadedFile, said: Option<Format>) -> Result<Step<Format>, Error>
     ensures missing { IfOk result (IfMissing (IsMissing file.now)) }
     ensures ready { IfOk result (IfReady (λ f. (bytes : List ℕ) → IsPartOf bytes file.now
         → IsFormatBy said bytes f)) }
-    ensures memory { IfErr result (λ e. e ≡ Error.Memory) }
+    ensures refused { IfErr result (λ e. (bytes : List ℕ) → IsPartOf bytes file.now
+        → IsForeignOrMemory said bytes e) }
 {
     match said {
         Some(format) => Ok(Step::Ready(format)),

@@ -3,8 +3,8 @@
 ghost use Rattle.std.specs.Prelude.{◌≡◌, ◌*◌, ◌^◌, ◌≤◌, length};
 ghost use Rattle.imago_session.specs.Blocks.{IsMissing};
 
+use crate::loaded::LoadedFile;
 use imago_drivers::drivers::Format;
-use imago_loaded::loaded::LoadedFile;
 use imago_qcow2::layout::L1Table;
 
 /// What is known of the tables of a qcow2 file.

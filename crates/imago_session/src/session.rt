@@ -10,7 +10,7 @@ ghost use Rattle.imago_qcow2.specs.Disk.{HaveSameTables, AreSameBytes};
 ghost use Rattle.imago_qcow2.specs.Entry.{cluster_length};
 ghost use Rattle.imago_qcow2.specs.Qcow2Image.{storage_in};
 ghost use Rattle.imago_access.specs.Target.{target};
-ghost use Rattle.imago_loaded.specs.Loaded.{loaded_bytes};
+ghost use Rattle.imago_session.specs.Loaded.{loaded_bytes};
 ghost use Rattle.imago_session.specs.Files.{File, IsLayerOf, GoesDown, IsLowest, AreAbove};
 ghost use Rattle.imago_session.specs.Files.{AreLayersOf, backing_name, described_size};
 ghost use Rattle.imago_session.specs.Files.{HasBacking, HasNoBacking, extent_names, names_in};
@@ -31,11 +31,11 @@ use crate::extents::{Extents, following};
 use crate::laws::{pieces_of_files, size_of_files};
 pub use crate::layer::Layer;
 use crate::layer::{Found, begin, resume};
+use crate::loaded::LoadedFile;
 use crate::loading::Loading;
 use imago_access::access::FormatAccess;
 use imago_any_driver::any::AnyDriver;
 use imago_drivers::drivers::{Format, FormatDriverInstance};
-use imago_loaded::loaded::LoadedFile;
 use imago_plan::piece::Piece;
 use imago_plan::plan::next_piece;
 use imago_qcow2::laws::image_of_bytes;
@@ -295,8 +295,10 @@ fn mapped_at(image: &FormatAccess<Layer>, at: u64, most: u64) -> Result<Mapped, 
 
 impl Session {
     /// Begins with the top file, which has that many bytes. It is opened in that format, or, if
-    /// none is said, in the one that its bytes are recognised as. Descriptors may contain what is
-    /// accepted. What it is refused for is told by [`give`](Self::give).
+    /// none is said, in the one that its bytes are recognised as: that of a qcow2 image, of a VMDK
+    /// descriptor that begins with `# Disk DescriptorFile`, or of a raw disk where they are
+    /// recognised as nothing. Descriptors may contain what is accepted. What it is refused for is
+    /// told by [`give`](Self::give).
     pub fn new(
         alloc: Global,
         accepted: Accepted,
@@ -349,7 +351,8 @@ impl Session {
     /// has for a fault in its format, by its driver: of its header or of its descriptor. With
     /// [`Error::InvalidData`], an extent may also begin at an offset that doesn't fit 64 bits, or
     /// the name of the format of the file below pass the first cluster. [`Error::Unsupported`] is
-    /// also the layer behind [`MOST_LAYERS`]. [`Error::Memory`] is no memory.
+    /// also a file of which no format is said, and that is recognised as what isn't opened, and the
+    /// layer behind [`MOST_LAYERS`]. [`Error::Memory`] is no memory.
     pub fn give(&mut self, bytes: &[u8]) -> Result<(), Error>
         ensures agrees { OnOk result ((files : ℕ → File)
             → IsAnswer files (wanted self.old) bytes.now → IsOf files self.old

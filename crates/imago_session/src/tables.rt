@@ -7,15 +7,15 @@ ghost use Rattle.imago_qcow2.specs.Disk.{HaveSameTables};
 ghost use Rattle.imago_qcow2.specs.Entry.{cluster_length, l1_start};
 ghost use Rattle.imago_qcow2.specs.Header.{header_of};
 ghost use Rattle.imago_qcow2.specs.Opening.{table_count};
-ghost use Rattle.imago_loaded.specs.Loaded.{loaded_bytes, file_length, AreThere};
-ghost use Rattle.imago_loaded.specs.Tables.{AreLoaded};
+ghost use Rattle.imago_session.specs.Loaded.{loaded_bytes, file_length, AreThere};
+ghost use Rattle.imago_session.specs.Tables.{AreLoaded};
 ghost use Rattle.imago_session.specs.Blocks.{IsMissing, IsPartOf};
 ghost use Rattle.imago_session.specs.Known.{AreTablesOf, AreKnownOf};
 ghost use Rattle.imago_session.specs.Steps.{IfMissing, IfReady};
 
 use crate::block::{Step, first_missing, part};
+use crate::loaded::LoadedFile;
 use crate::loading::Tables;
-use imago_loaded::loaded::LoadedFile;
 use imago_qcow2::entry::L2Table;
 use imago_qcow2::header::HEAD_LENGTH;
 use imago_qcow2::layout::{L1Table, l1_table, l2_table};

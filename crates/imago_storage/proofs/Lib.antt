@@ -12,6 +12,7 @@ pub mod Steps
 pub mod Orders
 pub mod Borrowed
 pub mod ReadParts
+pub mod BytesAt
 pub mod ZeroRanges
 pub mod ZeroWraps
 pub mod ZeroCalls

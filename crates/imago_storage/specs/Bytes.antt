@@ -1,7 +1,8 @@
 -- SPDX-License-Identifier: MIT
 use Rattle.std.specs.Prelude.{◌≡◌, ◌≢◌, ℕ, ◌+◌, ◌-◌, ◌<◌, ◌≤◌, ◌⊎◌, List, ◌++◌, length, take, drop}
-use Rattle.std.specs.Prelude.{min, max, replicate, slice_index, EachIndex, Bool, IsTrue, Result}
-use Rattle.std.specs.Prelude.{OnOk, OnErr}
+use Rattle.std.specs.Prelude.{min, max, map, replicate, slice_index, EachIndex, Bool, IsTrue}
+use Rattle.std.specs.Prelude.{Result, OnOk, OnErr}
+use Rattle.std.specs.List.{range_with_len}
 use Rattle.imago_storage.specs.declared.error.Error.{Error}
 use Rattle.imago_storage.specs.declared.options.PreallocateMode.{PreallocateMode}
 use Rattle.imago_storage.specs.declared.options.PreallocateMode.TheVariants as Mode
@@ -46,6 +47,10 @@ pub record WriteOutcome {T : Type 0} (keeps_data : Bool) (old target now : List 
   pub refused : IsTrue keeps_data → OnErr result (OldOrNew old target now)
   pub no_shorter : length old ≤ length now
   pub no_longer : length now ≤ length target
+
+-- the n bytes from the offset on, 0 past their end
+abbrev pub bytes_at : List ℕ → ℕ → ℕ → List ℕ
+bytes_at bytes at n = map (slice_index bytes) (range_with_len at n)
 
 -- the buffer holds the bytes from the offset on, 0 past their end
 abbrev pub IsReadAt : List ℕ → ℕ → List ℕ → Type 0

@@ -3,7 +3,7 @@
 ghost use Rattle.std.specs.Prelude.{◌≡◌, ◌+◌, ◌≤◌, [], Some, None, true, false, length, replicate};
 ghost use Rattle.std.specs.Prelude.{slice_index, EachIndex, IfOk, MatchOption, MatchResult};
 ghost use Rattle.std.specs.String.{string_bytes};
-ghost use Rattle.imago_plan.specs.PieceBytes.{bytes_at};
+ghost use Rattle.imago_storage.specs.Bytes.{bytes_at};
 ghost use Rattle.imago_img_tests.specs.MemoryFiles.{files_without, unfinished_path};
 
 use crate::asked::{Asked, Call};

@@ -10,7 +10,7 @@ type Row = (&'static str, u8, &'static str, &'static str);
 
 /// qcow2 images whose disk of 2048 bytes is what is below, and files for below. A name of a backing
 /// file stands at 200, the header extension with its format at 104.
-static PARTS: [PartsRow; 18] = [
+static PARTS: [PartsRow; 19] = [
     // A raw file that begins as a qcow2 image does, and one that begins as a sparse VMDK image.
     ("begun.raw", 512, &[(0, b"QFI\xfb")]),
     ("sparse.raw", 512, &[(0, b"KDMV")]),
@@ -41,6 +41,22 @@ static PARTS: [PartsRow; 18] = [
             (46, b"\x02"),
             (99, b"\x04\0\0\0\x68"),
             (104, b"\xe2\x79\x2a\xca\0\0\0\x03raw"),
+            (200, b"sparse.raw"),
+        ],
+    ),
+    // The old name of the raw format.
+    (
+        "says_file.qcow2",
+        1024,
+        &[
+            (0, VERSION_3),
+            (15, b"\xc8\0\0\0\x0a"),
+            (23, b"\x09"),
+            (30, b"\x08"),
+            (39, b"\x01"),
+            (46, b"\x02"),
+            (99, b"\x04\0\0\0\x68"),
+            (104, b"\xe2\x79\x2a\xca\0\0\0\x04file"),
             (200, b"sparse.raw"),
         ],
     ),
@@ -247,7 +263,7 @@ static PARTS: [PartsRow; 18] = [
 
 /// The format of a file below: that of the last name that the header has, or else what the file
 /// begins with, whatever the command line says of the first one.
-static FORMATS: [Row; 11] = [
+static FORMATS: [Row; 12] = [
     (
         "map says_raw.qcow2",
         0,
@@ -259,6 +275,15 @@ static FORMATS: [Row; 11] = [
     ),
     (
         "map says_raw_of_sparse.qcow2",
+        0,
+        "start                length               kind offset               file\n\
+        0                    4                    data 0                    \"sparse.raw\"\n\
+        4                    508                  zero 4                    \"sparse.raw\"\n\
+        512                  1536                 absent\n",
+        "",
+    ),
+    (
+        "map says_file.qcow2",
         0,
         "start                length               kind offset               file\n\
         0                    4                    data 0                    \"sparse.raw\"\n\

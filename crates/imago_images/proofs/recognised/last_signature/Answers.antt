@@ -1,6 +1,6 @@
 -- SPDX-License-Identifier: MIT
 use Rattle.std.proofs.Common.{arith, refl, ◌<◌, ◌≤◌, length}
-use Rattle.imago_images.proofs.SignatureSteps.{no_last, last_told}
+use Rattle.imago_formats.proofs.SignatureSteps.{no_last, last_told}
 use Rattle.imago_images.proofs.recognised.last_signature.Goals as goal
 
 pub returns-then-length-clause-told : goal.returns-then-length-clause-told

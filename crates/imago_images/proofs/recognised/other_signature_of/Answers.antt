@@ -2,8 +2,9 @@
 use Rattle.std.proofs.Common.{◌≡◌}
 use Rattle.std.specs.Option.{option_or}
 use Rattle.std.proofs.Common.{Some}
-use Rattle.imago_images.specs.Signatures.{told_by_last, last_block, iso_beside, other_signature_of}
-use Rattle.imago_images.proofs.SignatureSteps.{each_ok, other_behind}
+use Rattle.imago_formats.specs.Signatures.{told_by_last, last_block, iso_beside, other_signature_of}
+use Rattle.imago_formats.proofs.SignatureSteps.{other_behind}
+use Rattle.imago_images.proofs.SignatureSteps.{each_ok}
 use Rattle.imago_images.proofs.recognised.other_signature_of.Goals as goal
 
 pub returns-in-None-clause-told : goal.returns-in-None-clause-told

@@ -1,8 +1,9 @@
 -- SPDX-License-Identifier: MIT
 use Rattle.std.proofs.Common.{◌≡◌, Some}
 use Rattle.std.specs.Option.{option_or}
-use Rattle.imago_images.specs.Signatures.{told_by_last, last_block, iso_beside}
-use Rattle.imago_images.proofs.SignatureSteps.{each_ok, other_iso}
+use Rattle.imago_formats.specs.Signatures.{told_by_last, last_block, iso_beside}
+use Rattle.imago_formats.proofs.SignatureSteps.{other_iso}
+use Rattle.imago_images.proofs.SignatureSteps.{each_ok}
 use Rattle.imago_images.proofs.recognised.signature_behind.Goals as goal
 
 pub returns-in-None-clause-told : goal.returns-in-None-clause-told

@@ -1,7 +1,8 @@
 -- SPDX-License-Identifier: MIT
 use Rattle.std.proofs.Common.{◌≡◌, None}
-use Rattle.imago_images.specs.Signatures.{told_by_last, last_block, signature_of}
-use Rattle.imago_images.proofs.SignatureSteps.{by_last, each_ok}
+use Rattle.imago_formats.specs.Signatures.{told_by_last, last_block, signature_of}
+use Rattle.imago_formats.proofs.SignatureSteps.{by_last}
+use Rattle.imago_images.proofs.SignatureSteps.{each_ok}
 use Rattle.imago_images.proofs.recognised.signature_of.Goals as goal
 
 pub returns-in-None-clause-told : goal.returns-in-None-clause-told

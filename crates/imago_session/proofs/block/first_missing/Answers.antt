@@ -1,7 +1,7 @@
 -- SPDX-License-Identifier: MIT
 use Rattle.std.proofs.Common.{arith, refl, ◌+◌, ◌-◌, ◌/◌, ◌<◌, ◌≤◌, ℕ, sym, subst}
-use Rattle.imago_loaded.specs.Loaded.{IsThere}
-use Rattle.imago_loaded.proofs.LoadedSteps.{blocks_there}
+use Rattle.imago_session.specs.Loaded.{IsThere}
+use Rattle.imago_session.proofs.LoadedSteps.{blocks_there}
 use Rattle.imago_session.proofs.block.first_missing.Goals as goal
 
 pub returns-then-has_block-clause-there : goal.returns-then-has_block-clause-there

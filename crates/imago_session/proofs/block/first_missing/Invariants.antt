@@ -1,6 +1,6 @@
 -- SPDX-License-Identifier: MIT
 use Rattle.std.proofs.Common.{ℕ, ◌-◌, ◌/◌, ◌<◌, ◌≤◌}
-use Rattle.imago_loaded.specs.Loaded.{IsThere}
+use Rattle.imago_session.specs.Loaded.{IsThere}
 use Rattle.imago_session.proofs.block.first_missing.Given as goal
 
 abbrev pub invariant-loop-number : goal.invariant-loop-number

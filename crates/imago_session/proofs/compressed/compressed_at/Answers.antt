@@ -1,7 +1,6 @@
 -- SPDX-License-Identifier: MIT
-use Rattle.std.proofs.Common.{◌≡◌, ◌+◌, ◌∙◌, ◌<◌, ◌≤◌, ℕ, suc, List, true, Some, sym, ap, subst, arith}
-use Rattle.imago_access.specs.declared.access.FormatAccess.{FormatAccess}
-use Rattle.imago_access.specs.Chain.{driver, backing}
+use Rattle.std.proofs.Common.{◌≡◌, ◌+◌, ◌∙◌, ℕ, suc, List, true, Some, sym, ap, subst, arith}
+use Rattle.imago_access.specs.Chain.{backing}
 use Rattle.imago_qcow2.specs.Compressed.{packed_value}
 use Rattle.imago_qcow2.specs.Entry.{place_by}
 use Rattle.imago_session.specs.Files.{File, Layer, IsOver, AreLayersOf, described_by, described_value}

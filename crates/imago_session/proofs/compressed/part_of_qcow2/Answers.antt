@@ -1,5 +1,5 @@
 -- SPDX-License-Identifier: MIT
-use Rattle.std.proofs.Common.{◌≡◌, ◌/◌, ◌<◌, ◌∙◌, refl, sym, ap, arith}
+use Rattle.std.proofs.Common.{◌≡◌, ◌/◌, ◌<◌, ◌∙◌, refl, ap, arith}
 use Rattle.std.proofs.Props.{props}
 use Rattle.std.proofs.Math.Logic.{∥∥₁_elim}
 use Rattle.imago_qcow2.specs.declared.header.Header.{Header}
@@ -7,8 +7,8 @@ use Rattle.imago_qcow2.specs.Entry.{cluster_length, cluster_of, disk_size}
 use Rattle.imago_qcow2.specs.Header.{compression_of}
 use Rattle.imago_qcow2.specs.Qcow2Image.{storage_in}
 use Rattle.imago_qcow2.proofs.ToldSteps.{size_told, told_sound}
-use Rattle.imago_loaded.specs.Features.{loaded_features}
-use Rattle.imago_loaded.specs.Loaded.{loaded_bytes}
+use Rattle.imago_session.specs.Features.{loaded_features}
+use Rattle.imago_session.specs.Loaded.{loaded_bytes}
 use Rattle.imago_session.proofs.StreamSteps.{part_place}
 use Rattle.imago_session.proofs.compressed.part_of_qcow2.Goals as goal
 

@@ -1,19 +1,20 @@
 -- SPDX-License-Identifier: MIT
-use Rattle.std.proofs.Common.{ℕ, List, Option, inl, sym, subst}
+use Rattle.std.proofs.Common.{ℕ, List, Option, sym, subst}
 use Rattle.std.proofs.lemmas.Result.{err_from_is_err_and}
 use Rattle.imago_drivers.specs.declared.format.Format.{Format}
 use Rattle.imago_session.specs.declared.block.Step.{Step}
 use Rattle.imago_session.specs.Blocks.{IsPartOf}
 use Rattle.imago_session.specs.Files.{IsFormatBy}
 use Rattle.imago_session.specs.Steps.{IfReady}
-use Rattle.imago_session.proofs.ReadSteps.{if_err_more}
-use Rattle.imago_session.proofs.RefusalSteps.{cause_of}
+use Rattle.imago_session.proofs.ReadSteps.{if_err_more, passed_on}
+use Rattle.imago_session.proofs.RefusalSteps.{cause_of, foreign_cause}
 use Rattle.imago_session.proofs.layer.load.Goals as goal
 
 pub returns-in_err-number-clause-refused : goal.returns-in_err-number-clause-refused
 returns-in_err-number-clause-refused c =
     let p = err_from_is_err_and c.from_residual.result c.from_residual.ensures.1 in
-    rw (p.1, p.2) (λ f part known says. inl c.in_err-number.ensures.memory)
+    passed_on c.from_residual.result _ _ _ p.1 p.2 (λ f part known says.
+    foreign_cause c.args.accepted f c.args.format _ says (c.in_err-number.ensures.refused f.bytes part))
 
 pub returns-in-Ready-clause-refused : goal.returns-in-Ready-clause-refused
 returns-in-Ready-clause-refused c =

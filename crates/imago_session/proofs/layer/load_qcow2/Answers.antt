@@ -4,8 +4,8 @@ use Rattle.std.specs.String.{string_bytes}
 use Rattle.imago_drivers.specs.declared.format.Format.{Format}
 use Rattle.imago_qcow2.specs.Disk.{HaveSameTables, AreSameBytes}
 use Rattle.imago_qcow2.specs.Entry.{cluster_length}
-use Rattle.imago_loaded.specs.declared.loaded.LoadedFile.{LoadedFile}
-use Rattle.imago_loaded.specs.Loaded.{loaded_bytes}
+use Rattle.imago_session.specs.declared.loaded.LoadedFile.{LoadedFile}
+use Rattle.imago_session.specs.Loaded.{loaded_bytes}
 use Rattle.imago_session.specs.declared.block.Step.{Step}
 use Rattle.imago_session.specs.declared.loading.Tables.{Tables}
 use Rattle.imago_session.specs.Blocks.{IsPartOf}
@@ -13,9 +13,9 @@ use Rattle.imago_session.specs.Known.{AreTablesOf, AreKnownOf}
 use Rattle.imago_session.specs.Files.{IsFormatBy}
 use Rattle.imago_session.specs.Steps.{IfReady}
 use Rattle.imago_session.proofs.KnownSteps.{front_of}
-use Rattle.std.proofs.Common.{◌≡◌, ◌∙◌, inl, inr, ⊎_elim, length, arith}
+use Rattle.std.proofs.Common.{◌∙◌, inl, inr, ⊎_elim, arith}
 use Rattle.std.proofs.lemmas.Result.{err_from_is_err_and}
-use Rattle.imago_loaded.proofs.LoadedSteps.{loaded_length}
+use Rattle.imago_session.proofs.LoadedSteps.{loaded_length}
 use Rattle.imago_session.proofs.RefusalSteps.{qcow2_refused}
 use Rattle.imago_session.proofs.layer.load_qcow2.Goals as goal
 

@@ -1,7 +1,7 @@
 -- SPDX-License-Identifier: MIT
 use Rattle.std.proofs.Common.{◌∙◌, sym, ap, map}
 use Rattle.std.specs.String.{string_bytes}
-use Rattle.imago_loaded.proofs.LoadedSteps.{loaded_length}
+use Rattle.imago_session.proofs.LoadedSteps.{loaded_length}
 use Rattle.imago_session.proofs.layer.load_raw.Goals as goal
 
 pub returns-clause-agrees : goal.returns-clause-agrees

@@ -6,7 +6,7 @@ use Rattle.imago_drivers.specs.declared.format.Format.{Format}
 use Rattle.imago_vmdk.specs.Line.{extent_with}
 use Rattle.imago_vmdk.specs.Reading.{reading_of}
 use Rattle.imago_vmdk.specs.declared.line.Accepted.{Accepted}
-use Rattle.imago_loaded.specs.Loaded.{loaded_bytes, AreThere}
+use Rattle.imago_session.specs.Loaded.{loaded_bytes, AreThere}
 use Rattle.imago_session.specs.Files.{IsFormatBy, file_name, names_read}
 use Rattle.imago_session.proofs.ReadSteps.{same_whole, read_whole}
 use Rattle.std.proofs.Common.{inl, inr, ⊎_elim, refl, arith}

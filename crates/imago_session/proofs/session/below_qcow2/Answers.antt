@@ -2,7 +2,7 @@
 use Rattle.std.proofs.Common.{◌≡◌, ◌<◌, ◌∙◌, ℕ, Option, Vec, Global, inl, inr, refl, sym, subst, length, arith}
 use Rattle.imago_qcow2.specs.Backing.{IsBackingName}
 use Rattle.imago_qcow2.proofs.NumberSteps.{range32, range64}
-use Rattle.imago_loaded.specs.Loaded.{loaded_bytes}
+use Rattle.imago_session.specs.Loaded.{loaded_bytes}
 use Rattle.imago_qcow2.specs.Qcow2Image.{storage_in}
 use Rattle.imago_session.proofs.KnownSteps.{name_is}
 use Rattle.std.proofs.Common.{⊎_elim}

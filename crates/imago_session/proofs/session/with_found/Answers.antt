@@ -1,5 +1,5 @@
 -- SPDX-License-Identifier: MIT
-use Rattle.std.proofs.Common.{sym, subst}
+use Rattle.std.proofs.Common.{subst}
 use Rattle.imago_session.specs.declared.layer.Found.{Found}
 use Rattle.imago_session.specs.Found.{IsFoundOf}
 use Rattle.imago_session.proofs.ReadSteps.{if_err_more}

@@ -4,14 +4,15 @@ use Rattle.std.specs.Prelude.{MatchOption}
 use Rattle.imago_session.specs.declared.session.Named.{Named}
 use Rattle.imago_session.specs.Files.{Layer, AreAbove, GoesDown, IsLowest, backing_name}
 use Rattle.imago_session.proofs.LaidSteps.{above_more}
-use Rattle.std.proofs.Common.{inl, inr, refl}
+use Rattle.imago_session.proofs.ReadSteps.{passed_on}
+use Rattle.std.proofs.Common.{inl}
 use Rattle.std.proofs.lemmas.Result.{err_from_is_err_and}
 use Rattle.imago_session.proofs.session.with_layer.Goals as goal
 
 pub returns-in_err-below_of-clause-refused : goal.returns-in_err-below_of-clause-refused
 returns-in_err-below_of-clause-refused c =
     let p = err_from_is_err_and c.from_residual.result c.from_residual.ensures.1 in
-    rw (p.1, p.2) (λ accepted f of. inl (c.in_err-below_of.ensures.refused accepted f of))
+    passed_on c.from_residual.result _ _ _ p.1 p.2 (λ accepted f of. inl (c.in_err-below_of.ensures.refused accepted f of))
 
 pub returns-in_ok-image-in-None-clause-agrees : goal.returns-in_ok-image-in-None-clause-agrees
 returns-in_ok-image-in-None-clause-agrees c = λ accepted files are own names.

@@ -2,8 +2,8 @@
 use Rattle.std.proofs.Common.{◌+◌, ◌*◌, ◌≤◌, ◌∙◌, ℕ, List, refl, ap, sym, subst, arith}
 use Rattle.imago_qcow2.specs.Numbers.{be64}
 use Rattle.imago_qcow2.specs.Entry.{table_in_entry}
-use Rattle.imago_loaded.proofs.LoadedSteps.{keeps_refl}
-use Rattle.imago_loaded.proofs.TableSteps.{tables_more, loads_tables}
+use Rattle.imago_session.proofs.LoadedSteps.{keeps_refl}
+use Rattle.imago_session.proofs.TableSteps.{tables_more, loads_tables}
 use Rattle.imago_session.proofs.ReadSteps.{none_is, table_inside}
 use Rattle.imago_session.proofs.tables.next_missing.Goals as goal
 

@@ -1,6 +1,7 @@
 -- SPDX-License-Identifier: MIT
 use Rattle.std.proofs.Common.{List, length, ap, sym, subst}
 use Rattle.std.proofs.lemmas.Result.{err_from_is_err_and}
+use Rattle.imago_session.proofs.ReadSteps.{passed_on}
 use Rattle.imago_session.proofs.RefusalSteps.{first_cause}
 use Rattle.imago_session.specs.Files.{Layer, AreAbove}
 use Rattle.imago_session.specs.Found.{IsFoundOf}
@@ -16,6 +17,6 @@ returns-clause-agrees c = λ files len says.
 pub returns-in_err-state-clause-refused : goal.returns-in_err-state-clause-refused
 returns-in_err-state-clause-refused c =
     let p = err_from_is_err_and c.from_residual-in_err-state.result c.from_residual-in_err-state.ensures.1 in
-    rw (p.1, p.2) (λ f len says.
+    passed_on c.from_residual-in_err-state.result _ _ _ p.1 p.2 (λ f len says.
     first_cause c.args.accepted (length c.new-above.result.items) f c.in_err-state.field-0.0 (ap length c.new-above.ensures.items)
     (c.in_err-state.ensures.refused c.args.accepted f (c.in_ok-found.ensures.agrees f len says)))

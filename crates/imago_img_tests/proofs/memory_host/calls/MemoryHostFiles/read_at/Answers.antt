@@ -1,6 +1,6 @@
 -- SPDX-License-Identifier: MIT
 use Rattle.std.proofs.Common.{◌≡◌, ◌+◌, ◌∙◌, ℕ, List, EachIndex, slice_index, subst}
-use Rattle.imago_plan.proofs.BytesAt.{read_bytes}
+use Rattle.imago_storage.proofs.BytesAt.{read_bytes}
 use Rattle.imago_img_tests.proofs.memory_host.calls.MemoryHostFiles.read_at.Goals as goal
 
 pub returns : goal.returns

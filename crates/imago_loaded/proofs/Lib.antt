@@ -1,3 +1,0 @@
--- SPDX-License-Identifier: MIT
-pub mod LoadedSteps
-pub mod TableSteps

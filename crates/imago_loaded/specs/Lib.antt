@@ -1,4 +1,0 @@
--- SPDX-License-Identifier: MIT
-pub mod Features
-pub mod Loaded
-pub mod Tables
