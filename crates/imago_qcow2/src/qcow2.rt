@@ -574,7 +574,9 @@ impl<S: Storage> Qcow2<S> {
     }
 
     /// How many places from that offset of the disk on the mapping names, up to `most` of them. It
-    /// is known of the first ones.
+    /// is known of the first ones. Its loops aren't inlined: else a mapping of a driver of another
+    /// format pays for their registers.
+    #[inline(never)]
     fn longest(&self, mapping: ShallowMapping, offset: u64, known: u64, most: u64) -> u64
         requires names { (i : ℕ)
             → i < known
