@@ -10,7 +10,7 @@ use Rattle.imago_qcow2.specs.Numbers.{be32, be64}
 use Rattle.imago_qcow2.specs.Header.{header_of, IsSound}
 use Rattle.imago_qcow2.specs.Entry.{disk_size}
 use Rattle.imago_qcow2.specs.Fault.{error_of}
-use Rattle.imago_qcow2.specs.Limit.{IsWithin}
+use Rattle.imago_qcow2.specs.Limit.{IsWithin, l1_length}
 use Rattle.imago_qcow2.proofs.HeaderSteps.{same32, same64}
 use Rattle.imago_storage.specs.declared.error.Error.{Error}
 use Rattle.imago_storage.specs.declared.error.Error.TheVariants as E
@@ -23,7 +23,7 @@ use Rattle.imago_images.specs.declared.failure.Reason.{Reason}
 use Rattle.imago_images.specs.declared.format.ImageFormat.{ImageFormat}
 use Rattle.imago_images.specs.declared.format.ImageFormat.TheVariants.{Vmdk, Qcow2}
 use Rattle.imago_images.specs.Layers.{size_by}
-use Rattle.imago_images.specs.Longest.{IsOverLimit, IsSizeUnknown, IsTooLong, IsTooLarge, HasShortL1, l1_length}
+use Rattle.imago_images.specs.Longest.{IsOverLimit, IsSizeUnknown, IsTooLong, IsTooLarge, HasShortL1}
 use Rattle.imago_images.specs.Refusals.{IsRefused, IsBySystemOr, IsUnread}
 use Rattle.imago_images.proofs.RefusalSteps.{refused_for, weaker, by_cause, by_read}
 

@@ -7,8 +7,7 @@ use Rattle.imago_vmdk.specs.declared.line.Accepted.{Accepted}
 use Rattle.imago_vmdk.specs.Reading.{reading_of}
 use Rattle.imago_qcow2.specs.Header.{header_of}
 use Rattle.imago_qcow2.specs.Fault.{error_of}
-use Rattle.imago_qcow2.specs.Limit.{IsWithin, HasTablesWithin}
-use Rattle.imago_qcow2.specs.Numbers.{be32}
+use Rattle.imago_qcow2.specs.Limit.{IsWithin, HasTablesWithin, l1_length}
 use Rattle.imago_images.specs.declared.failure.Reason.{Reason}
 use Rattle.imago_images.specs.declared.format.ImageFormat.{ImageFormat}
 use Rattle.imago_images.specs.declared.format.ImageFormat.TheVariants.{Raw, Vmdk, Qcow2}
@@ -41,10 +40,6 @@ abbrev pub IsTooLong : Option ℕ → Accepted → ImageFormat → List ℕ → 
 IsTooLong longest accepted format bytes reason =
     IsOverLimit longest (size_by accepted format bytes) reason
     ⊎ IsSizeUnknown accepted format bytes reason
-
--- how many bytes the L1 table of a qcow2 file has, by its header
-abbrev pub l1_length : List ℕ → ℕ
-l1_length bytes = 8 * be32 bytes 36
 
 -- the L1 table of a layer's file, if its format has one, has at most 32 MiB
 abbrev pub HasShortL1 : ImageFormat → List ℕ → Type 0

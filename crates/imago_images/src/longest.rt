@@ -2,11 +2,10 @@
 //! Disks and L1 tables that may have so many bytes, and no more.
 ghost use Rattle.std.specs.Prelude.{◌≡◌, ◌≤◌, ◌<◌, ◌^◌, ◌*◌, ◌+◌, ℕ, List, Option, Some};
 ghost use Rattle.std.specs.Prelude.{IfOk, IfErr, IfSome};
-ghost use Rattle.std.specs.Prelude.{length as count_of};
 ghost use Rattle.imago_storage.specs.Bytes.{bytes_at};
 ghost use Rattle.imago_vmdk.specs.Reading.{reading_of};
 ghost use Rattle.imago_qcow2.specs.Entry.{disk_size};
-ghost use Rattle.imago_qcow2.specs.Limit.{IsWithin};
+ghost use Rattle.imago_qcow2.specs.Limit.{IsWithin, l1_length as l1_length_of};
 ghost use Rattle.imago_images.specs.declared.failure.Reason.TheVariants as Why;
 ghost use Rattle.imago_images.specs.declared.format.ImageFormat.TheVariants as Of;
 ghost use Rattle.imago_images.specs.Extents.{size_read};
@@ -14,7 +13,6 @@ ghost use Rattle.imago_images.specs.HostBytes.{HasBytes};
 ghost use Rattle.imago_images.specs.Layers.{size_by};
 ghost use Rattle.imago_images.specs.Longest.{IsNoLonger, IsTooLong, IsSizeUnknown, IsOverLimit};
 ghost use Rattle.imago_images.specs.Longest.{HasShortL1, IsTooLarge};
-ghost use Rattle.imago_images.specs.Longest.{l1_length as l1_length_of};
 ghost use Rattle.imago_images.specs.Refusals.{IsRefused};
 
 use crate::failure::{OpenError, Reason};
@@ -24,7 +22,7 @@ use crate::recognised::{length_of, read_block, unread};
 use imago_file::file::FileStorage;
 use imago_file::host::HostFile;
 use imago_qcow2::header::{self, HEAD_LENGTH};
-use imago_qcow2::number::number32;
+pub use imago_qcow2::layout::{LONGEST_L1, l1_length};
 use imago_storage::error::Error;
 use imago_storage::ext::StorageExt;
 use imago_storage::storage::Storage;
@@ -33,20 +31,6 @@ use std::alloc::Global;
 
 /// The most bytes that a descriptor has.
 const LONGEST_TEXT: u64 = 1 << 21;
-
-/// The most bytes that the L1 table of a qcow2 file has, as qemu opens it.
-pub const LONGEST_L1: u64 = 32 << 20;
-
-/// Where the header of a qcow2 file says how many entries of 8 bytes its L1 table has.
-const L1_COUNT: usize = 36;
-
-/// How many bytes the L1 table of a qcow2 file has, by the first bytes of the file.
-pub fn l1_length(head: &[u8]) -> u64
-    requires { 40 ≤ count_of head.now }
-    ensures { result ≡ l1_length_of head.now }
-{
-    8 * number32(head, L1_COUNT) as u64
-}
 
 /// Refuses the file of that path as a layer of that format whose disk is longer than the opening
 /// allows, as [`refuse_longer`] does, or whose L1 table has more than 32 MiB.

@@ -6,6 +6,7 @@ ghost use Rattle.imago_images.specs.Opening.{with_accepted, with_longest, with_o
 ghost use Rattle.imago_images.specs.Opening.{with_tables};
 
 use crate::format::ImageFormat;
+pub use imago_qcow2::layout::USUAL_TABLES;
 pub use imago_vmdk::line::Accepted;
 
 /// Which files are opened besides the one whose path is given.
@@ -38,10 +39,6 @@ pub struct Opening {
     /// of that file is read.
     pub longest: Option<u64>,
 }
-
-/// The most bytes that the tables of a qcow2 file may have, unless an opening says otherwise: 256
-/// MiB, which are enough for a disk of less than 2 TiB in clusters of 64 KiB.
-pub const USUAL_TABLES: u64 = 256 << 20;
 
 impl Opening {
     /// The usual way: the format is told from the file, and so are those of the files below it;

@@ -15,7 +15,7 @@ use Rattle.imago_qcow2.specs.Numbers.{be64}
 use Rattle.imago_qcow2.specs.Header.{header_of}
 use Rattle.imago_qcow2.specs.Entry.{cluster_length, l1_start, table_of}
 use Rattle.imago_qcow2.specs.Fault.{error_of}
-use Rattle.imago_qcow2.specs.Limit.{has_offset, with_offset, with_table, table_offsets, IsWithin, TablesNeedMore}
+use Rattle.imago_qcow2.specs.Limit.{has_offset, with_offset, with_table, table_offsets, IsWithin, TablesNeedMore, l1_length}
 use Rattle.imago_qcow2.specs.Opening.{table_count}
 use Rattle.imago_qcow2.specs.Tables.{says_entry, header_cluster, header_tables, AreEntriesRead}
 use Rattle.imago_qcow2.proofs.NumberSteps.{read64}
@@ -33,7 +33,7 @@ use Rattle.imago_images.specs.Alone.{HasOneFormat, IsOfAnother}
 use Rattle.imago_images.specs.Chains.{GoesDown, IsLayerRefused, IsChainRefused, IsImageRefused}
 use Rattle.imago_images.specs.Formats.{told_format, IsFormatBy}
 use Rattle.imago_images.specs.Layers.{SaysBacking, size_by}
-use Rattle.imago_images.specs.Longest.{IsNoLonger, IsOverLimit, IsSizeUnknown, IsTooLong, IsTooLarge, HasLongL1, l1_length}
+use Rattle.imago_images.specs.Longest.{IsNoLonger, IsOverLimit, IsSizeUnknown, IsTooLong, IsTooLarge, HasLongL1}
 use Rattle.imago_images.specs.Refusals.{IsRefused, IsBySystem, IsUnread, IsUnseen, IsUnknown, IsUnopened, IsByQcow2, HasLargerTables}
 use Rattle.imago_formats.specs.Signatures.{signature_of, other_signature_of}
 use Rattle.imago_img_files.specs.declared.failure.Failure.{Failure}

@@ -17,7 +17,7 @@ use Rattle.imago_qcow2.proofs.HeldSteps.{enough, span_positive}
 use Rattle.imago_qcow2.proofs.HeaderSteps.{same32, same64, compression_same, header_same, head_same}
 use Rattle.imago_images.specs.declared.opening.Opening.{Opening}
 use Rattle.imago_images.specs.Layers.{SaysBacking}
-use Rattle.imago_images.specs.Longest.{l1_length}
+use Rattle.imago_qcow2.specs.Limit.{l1_length}
 use Rattle.imago_img_checks.specs.declared.vet_tables.Shape.{Shape}
 use Rattle.imago_img_checks.specs.Vetted.{named_by, named_tables, IsSafeTable, AreSafeTables, IsVetted}
 use Rattle.imago_img_checks.specs.VettedParts.{IsEntrySafe, IsTableSafe, AreEntriesSafe}

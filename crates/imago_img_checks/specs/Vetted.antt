@@ -16,6 +16,7 @@ use Rattle.imago_qcow2.specs.Numbers.{be64}
 use Rattle.imago_qcow2.specs.Header.{header_of, compression_of}
 use Rattle.imago_qcow2.specs.Entry.{version_of, cluster_length, per_table, table_of}
 use Rattle.imago_qcow2.specs.Entry.{cluster_in_entry}
+use Rattle.imago_qcow2.specs.Limit.{l1_length}
 use Rattle.imago_qcow2.specs.Opening.{table_count}
 use Rattle.imago_images.specs.declared.failure.OpenError.{OpenError}
 use Rattle.imago_images.specs.declared.files.FileStatus.{FileStatus}
@@ -27,7 +28,7 @@ use Rattle.imago_images.specs.Alone.{HasOneFormat}
 use Rattle.imago_images.specs.Chains.{IsImageRefused}
 use Rattle.imago_images.specs.Formats.{IsFormatBy}
 use Rattle.imago_images.specs.Layers.{SaysBacking}
-use Rattle.imago_images.specs.Longest.{IsNoLonger, l1_length}
+use Rattle.imago_images.specs.Longest.{IsNoLonger}
 use Rattle.imago_formats.specs.Signatures.{signature_of}
 use Rattle.imago_img_files.specs.Failures.{IsHostRefusal}
 use Rattle.imago_img_files.specs.Openings.{most_memory}

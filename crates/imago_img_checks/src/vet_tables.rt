@@ -7,16 +7,15 @@ ghost use Rattle.imago_qcow2.specs.Numbers.{be64};
 ghost use Rattle.imago_qcow2.specs.Entry.{table_in_entry};
 ghost use Rattle.imago_qcow2.specs.Header.{header_of, IsClusterSize, IsSound};
 ghost use Rattle.imago_qcow2.specs.Opening.{table_count};
-ghost use Rattle.imago_images.specs.Longest.{l1_length as l1_length_of};
+ghost use Rattle.imago_qcow2.specs.Limit.{l1_length as l1_length_of};
 ghost use Rattle.imago_img_checks.specs.Vetted.{IsThere, IsSafeCluster, AreSafeTables};
 ghost use Rattle.imago_img_checks.specs.Vetted.{named_by, named_tables};
 ghost use Rattle.imago_img_checks.specs.VettedParts.{IsEntrySafe, IsTableSafe, AreEntriesSafe};
 
 use crate::finding::{EntryFault, Fault, Findings};
-use imago_images::longest::{LONGEST_L1, l1_length};
 use imago_qcow2::entry::{GuestCluster, L2Table};
 use imago_qcow2::header::{Compression, Header};
-use imago_qcow2::layout::{guest_cluster, l1_table, l2_table};
+use imago_qcow2::layout::{LONGEST_L1, guest_cluster, l1_length, l1_table, l2_table};
 use imago_qcow2::number::number64;
 use imago_storage::error::Error;
 use imago_storage::ext::StorageExt;

@@ -1,9 +1,10 @@
 -- A limit on tables, as they are loaded one after the other.
 -- SPDX-License-Identifier: MIT
 use Rattle.std.proofs.Common.{◌≡◌, ℕ, zero, suc, ◌+◌, ◌-◌, ◌*◌, ◌≤◌, ⊎_elim, Bool, true, false, ◌||◌, List, [], ◌∷◌, length, Option, Some, None, is_some, inr, mul-le-mul_left, refl, sym, ap, ◌∙◌, subst, arith, ◌/◌}
-use Rattle.std.specs.Prelude.{nat_eq}
+use Rattle.std.specs.Prelude.{nat_eq, ◌<◌, Result, Ok, Err, OnOk, IfErr, replicate}
 use Rattle.std.specs.BTreeMap.{get, is_at, Updates}
 use Rattle.std.specs.Ordering.{nat_cmp}
+use Rattle.std.proofs.lemmas.List.{length-replicate}
 use Rattle.std.proofs.lemmas.Bool.{cases_eq, cases_Bool}
 use Rattle.std.proofs.lemmas.Bool.Decides.{nat_tests}
 use Rattle.imago_storage.specs.declared.error.Error.{Error}
@@ -216,3 +217,43 @@ module _ (f : Features) (bytes : List ℕ) (start count cluster : ℕ) (entries 
       let x : HasRoom most (8 * count + cluster * length (table_offsets bytes cluster entries (length entries / 8))) l.room = room_more most room l.room (8 * count) (cluster * length (table_offsets bytes cluster entries (length entries / 8))) left a.room in
       let y : length l1 ≡ count = all ∙ entries_are in
       rw (y, a.count) (within_room most l.room (8 * count + cluster * length (table_offsets bytes cluster entries (length entries / 8))) x)
+
+-- what holds of a result that went well
+pub on_ok_more : {A E : Type 0} (r : Result A E) (P Q : Type 0) → OnOk r P → (P → Q) → OnOk r Q
+on_ok_more (Ok x) P Q h f = f h
+on_ok_more (Err e) P Q h f = h
+
+-- and of one that went wrong, by what holds for all files of a kind
+pub if_err_all : {A E : Type 0} (r : Result A E) (W : List ℕ → Type 0) (P : List ℕ → E → Type 0) (Q : E → Type 0) → ((bytes : List ℕ) → W bytes → IfErr r (P bytes))
+    → ((e : E) → ((bytes : List ℕ) → W bytes → P bytes e) → Q e) → IfErr r Q
+if_err_all (Ok x) W P Q h f = tt
+if_err_all (Err e) W P Q h f = f e h
+
+-- tables that are counted, by the L1 entries alone
+module _ (file cluster most : ℕ) (entries : List ℕ) where
+  abbrev pub PassesLimit : Type 0
+  PassesLimit = (bytes : List ℕ) (count : ℕ) → file ≡ length bytes → length entries ≡ 8 * count → most < tables_length bytes cluster entries count
+
+  pub entries_fault : (fault : OpenFault) → by_fault (λ e. ⊥) (IsBeyond (Some most) (length entries)) fault → by_fault (λ e. e ≡ Error.Memory) PassesLimit fault
+  entries_fault fault = full_by (λ e. e ≡ Error.Memory) (IsBeyond (Some most) (length entries)) PassesLimit fault (λ past bytes count is whole. omega (arith, past, whole))
+
+  module _ (room : Option ℕ) (left : HasRoom (Some most) (length entries) room) where
+    pub counted_fault : (fault : OpenFault)
+        → ((bytes : List ℕ) → file ≡ length bytes → by_fault (λ e. e ≡ Error.Memory) (IsBeyond room (cluster * length (table_offsets bytes cluster entries (length entries / 8)))) fault)
+        → by_fault (λ e. e ≡ Error.Memory) PassesLimit fault
+    counted_fault (O.Driver e) h = h (replicate {A = ℕ} file 0) (sym (length-replicate file 0))
+    counted_fault O.TablesTooLarge h = λ bytes count is whole.
+        let all : length entries / 8 ≡ count = omega (arith, whole) in
+        let x : IsBeyond room (cluster * length (table_offsets bytes cluster entries count)) = rw all at (h bytes is) in
+        let y : IsBeyond (Some most) (length entries + cluster * length (table_offsets bytes cluster entries count)) =
+        beyond_more (Some most) room (length entries) (cluster * length (table_offsets bytes cluster entries count)) left x in
+        omega (arith, y, whole)
+
+    pub counted_within : (bytes : List ℕ) (count : ℕ) → length entries ≡ 8 * count
+        → IsWithin room (cluster * length (table_offsets bytes cluster entries (length entries / 8))) → tables_length bytes cluster entries count ≤ most
+    counted_within bytes count whole h =
+        let all : length entries / 8 ≡ count = omega (arith, whole) in
+        let x : IsWithin room (cluster * length (table_offsets bytes cluster entries count)) = rw all at h in
+        let y : IsWithin (Some most) (length entries + cluster * length (table_offsets bytes cluster entries count)) =
+        within_more (Some most) room (length entries) (cluster * length (table_offsets bytes cluster entries count)) left x in
+        omega (arith, y, whole)

@@ -13,6 +13,7 @@ use Rattle.imago_qcow2.specs.declared.table.Loaded.{Loaded}
 use Rattle.imago_qcow2.specs.Tables.{LoadedImage, says_entry, header_cluster, header_tables}
 use Rattle.imago_qcow2.specs.Tables.{AreEntriesRead, IsAccepted}
 use Rattle.imago_qcow2.specs.Entry.{cluster_length, table_of}
+use Rattle.imago_qcow2.specs.Numbers.{be32}
 use Rattle.imago_qcow2.specs.Opening.{table_count}
 
 -- so many bytes are more than a limit, where there is one
@@ -73,6 +74,10 @@ file_offsets bytes (suc n) = with_table (table_of bytes n) (file_offsets bytes n
 unfoldable pub file_tables : List ℕ → ℕ
 file_tables bytes = 8 * table_count bytes
     + cluster_length bytes * length (file_offsets bytes (table_count bytes))
+
+-- how many bytes the L1 table of a file has, by its header
+abbrev pub l1_length : List ℕ → ℕ
+l1_length bytes = 8 * be32 bytes 36
 
 -- the tables of an image's file have no more bytes than the limit, where there is one
 abbrev pub HasTablesWithin : Option ℕ → List ℕ → Type 0

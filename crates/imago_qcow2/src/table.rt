@@ -14,7 +14,7 @@ ghost use Rattle.imago_qcow2.specs.Tables.{KeepsLoaded};
 ghost use Rattle.imago_qcow2.specs.Fault.{by_fault};
 ghost use Rattle.imago_qcow2.specs.Limit.{IsBeyond, IsWithin, HasRoom, IsAccount, NeedMore};
 ghost use Rattle.imago_qcow2.specs.Limit.{with_offset, with_table, table_offsets};
-ghost use Rattle.imago_qcow2.specs.Limit.{AreReadWithin};
+ghost use Rattle.imago_qcow2.specs.Limit.{AreReadWithin, tables_length};
 ghost use Rattle.imago_qcow2.specs.Opening.{read_reasons, entries_reasons, tables_reasons};
 
 use crate::entry::{L2Table, table_in};
@@ -336,6 +336,28 @@ fn count_all(
         count_said(alloc, says, cluster, &mut counted)?;
     }
     Ok(())
+}
+
+/// Refuses these L1 entries of a file of that length, and the L2 tables that they name, where they
+/// have more than so many bytes, each table counted once. It reads none of them.
+pub(crate) fn refuse_over(
+    alloc: Global,
+    entries: &[u8],
+    cluster: u64,
+    file: u64,
+    most: u64,
+) -> Result<(), OpenFault>
+    requires positive { 0 < cluster }
+    requires longest { cluster ≤ 2 ^ 21 }
+    ensures within { (bytes : List ℕ) (count : ℕ) → file ≡ length bytes
+        → length entries.now ≡ 8 * count
+        → OnOk result (tables_length bytes cluster entries.now count ≤ most) }
+    ensures refusals { IfErr result (by_fault (λ e. e ≡ Memory)
+        ((bytes : List ℕ) (count : ℕ) → file ≡ length bytes → length entries.now ≡ 8 * count
+        → most < tables_length bytes cluster entries.now count)) }
+{
+    let room = room_behind(Some(most), entries.len() as u64)?;
+    count_all(alloc, entries, cluster, file, room)
 }
 
 /// Reads the L1 table of a file of that length, of so many entries from `start` on, and the L2

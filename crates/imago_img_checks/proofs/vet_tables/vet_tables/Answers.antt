@@ -7,7 +7,7 @@ use Rattle.imago_qcow2.specs.Numbers.{be64}
 use Rattle.imago_qcow2.specs.Header.{compression_of}
 use Rattle.imago_qcow2.specs.Entry.{version_of, cluster_length, l1_start, table_in_entry}
 use Rattle.imago_qcow2.specs.Opening.{table_count}
-use Rattle.imago_images.specs.Longest.{l1_length}
+use Rattle.imago_qcow2.specs.Limit.{l1_length}
 use Rattle.imago_img_checks.specs.declared.vet_tables.Shape.{Shape}
 use Rattle.imago_img_checks.specs.Vetted.{AreSafeTables, named_tables}
 use Rattle.imago_img_checks.specs.VettedParts.{AreEntriesSafe}
