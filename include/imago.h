@@ -91,7 +91,7 @@ static inline const char *imago_kind_text(uint32_t kind)
  * imago_image_close frees. A struct is made of zeroes (IMAGO_CLOSED). It may be moved, and nothing
  * but the library changes its fields. It is never copied: of two copies, the second one that is
  * closed would free what the first has freed. Only the thread that opened it may use it and close
- * it. Every call of a closed image but imago_image_open is
+ * it. Every call of a closed image but imago_image_open and imago_image_open_within is
  * IMAGO_NOT_FOUND and changes nothing, and to close it again does nothing.
  */
 struct imago_image {
@@ -147,6 +147,16 @@ struct imago_want {
  * imago_image_give. Refused, the image is closed. */
 uint32_t imago_image_open(struct imago_image *image, uint64_t length, uint32_t format, bool strict);
 
+/* How many bytes the tables of each qcow2 file of an image may have that imago_image_open begins:
+ * 256 MiB, which are enough for a disk of less than 2 TiB in clusters of 64 KiB. */
+#define IMAGO_USUAL_TABLES ((uint64_t)256 << 20)
+
+/* Begins as imago_image_open does, where the tables of each qcow2 file may have that many bytes: 8
+ * for each entry of the L1 table that its disk needs, and a cluster for each L2 table that these
+ * name, counted once. */
+uint32_t imago_image_open_within(struct imago_image *image, uint64_t length, uint32_t format,
+                                 bool strict, uint64_t tables);
+
 /* Tells what the image asks for, which is the same until it is given. No block of a file is asked
  * for twice, so an opening ends. Once the image is open, nothing is asked for any more.
  *
@@ -167,7 +177,8 @@ uint32_t imago_image_want(struct imago_image *image, struct imago_want *want);
  *  - IMAGO_INVALID_DATA is also an extent that begins in its file at an offset which doesn't fit 64
  *    bits, and a backing file whose format's name passes the end of the header extensions.
  *  - IMAGO_UNSUPPORTED is also a file of IMAGO_FORMAT_UNKNOWN that is recognised as what isn't
- *    opened, and a file below 200 others.
+ *    opened; a qcow2 file whose L1 table has more than 32 MiB, or whose tables have more bytes than
+ *    they may, of which no L2 table is asked for; and a file below 200 others.
  *  - IMAGO_MEMORY is no memory.
  * The opening is over then, and imago_image_want says so. IMAGO_MEMORY may also leave the image as
  * it was, and the same bytes are asked for still. */

@@ -23,6 +23,8 @@ import stat
 
 UNKNOWN, RAW, VMDK, QCOW2 = range(4)
 BACKING, EXTENT = 2, 3
+# How many bytes the tables of each qcow2 file may have, unless the caller says otherwise.
+USUAL_TABLES = 256 << 20
 ZERO, STORED, COMPRESSED = range(3)
 # `file` is an old name of raw.
 _FORMATS = {b"raw": RAW, b"file": RAW, b"vmdk": VMDK, b"qcow2": QCOW2}
@@ -93,7 +95,9 @@ class Place(ctypes.Structure):
 _AT = ctypes.POINTER(_Image)
 _SIZE = ctypes.POINTER(ctypes.c_size_t)
 _SIGNATURES = {
-    "imago_image_open": [_AT, ctypes.c_uint64, ctypes.c_uint32, ctypes.c_bool],
+    "imago_image_open_within": [
+        _AT, ctypes.c_uint64, ctypes.c_uint32, ctypes.c_bool, ctypes.c_uint64,
+    ],
     "imago_image_want": [_AT, ctypes.POINTER(_Want)],
     "imago_image_give": [_AT, ctypes.c_char_p, ctypes.c_size_t],
     "imago_image_name": [_AT, ctypes.c_char_p, ctypes.c_size_t, _SIZE],
@@ -130,11 +134,11 @@ def beside(above, name, kind, format):
 class Disk(io.RawIOBase):
     """The disk of an image: a file object for reading."""
 
-    def __init__(self, path, format=UNKNOWN, others=beside, strict=False):
+    def __init__(self, path, format=UNKNOWN, others=beside, strict=False, tables=USUAL_TABLES):
         self._image, self._files, self._path, self._at, self.size = _Image(), [], path, 0, 0
         self._unpacked = (None, b"")
         try:
-            self._load(path, format, others, strict)
+            self._load(path, format, others, strict, tables)
         except BaseException:
             self.close()
             raise
@@ -160,9 +164,10 @@ class Disk(io.RawIOBase):
             return None
         return name.raw[:length.value] if length.value <= len(name) else b""
 
-    def _load(self, path, format, others, strict):
+    def _load(self, path, format, others, strict, tables):
         lib, want, above = _lib(), _Want(), path
-        self._done(lib.imago_image_open(self._image, self._add(path), format, strict))
+        length = self._add(path)
+        self._done(lib.imago_image_open_within(self._image, length, format, strict, tables))
         while True:
             self._done(lib.imago_image_want(self._image, want))
             if want.kind == 0:
@@ -261,6 +266,6 @@ class Disk(io.RawIOBase):
             super().close()
 
 
-def open(path, format=UNKNOWN, others=beside, strict=False):
+def open(path, format=UNKNOWN, others=beside, strict=False, tables=USUAL_TABLES):
     """Opens the image of a path, with the files that it names as `others` lets them through."""
     return Disk(path, format, others, strict)

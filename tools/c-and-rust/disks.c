@@ -148,6 +148,35 @@ static int ordered(const char *path)
     return 1;
 }
 
+/* Whether the image of a file is opened whose tables have that many bytes, and refused where they may
+ * have one less, once the three blocks are given in which its front and its L1 table can stand. */
+static int limited(const char *path, uint64_t tables)
+{
+    struct imago_image image = IMAGO_CLOSED;
+    struct imago_want want;
+    static uint8_t bytes[65536];
+    int file = open(path, O_RDONLY);
+    uint64_t length = (uint64_t)lseek(file, 0, SEEK_END);
+    for (uint64_t less = 0; less < 2; less++) {
+        uint32_t code = IMAGO_DONE;
+        uint64_t given = 0;
+        WANTED(imago_image_open_within(&image, length, IMAGO_FORMAT_QCOW2, false, tables - less),
+               IMAGO_DONE);
+        while (code == IMAGO_DONE) {
+            WANTED(imago_image_want(&image, &want), IMAGO_DONE);
+            if (want.kind != IMAGO_WANTS_BYTES) break;
+            WANTED(imago_disk_fill(file, bytes, (size_t)want.count, want.offset), IMAGO_DONE);
+            code = imago_image_give(&image, bytes, (size_t)want.count);
+            given += want.count;
+        }
+        WANTED(code, less ? IMAGO_UNSUPPORTED : IMAGO_DONE);
+        WANTED((int)(!less || given <= 3 * sizeof bytes), 1);
+        imago_image_close(&image);
+    }
+    close(file);
+    return 1;
+}
+
 /* What a thread reads and compares, and whether all is right. */
 struct job {
     const char *path, *raw;
@@ -191,6 +220,7 @@ int main(int count, char **words)
     int right = 1;
     if (count < 3) return 1;
     if (strcmp(words[1], "order") == 0) return !ordered(words[2]);
+    if (strcmp(words[1], "limit") == 0) return !limited(words[2], strtoull(words[3], NULL, 10));
     if (strcmp(words[1], "threads") == 0) return count < 4 || !threaded(words[2], words[3]);
     code = imago_disk_open(&disk, words[2], IMAGO_FORMAT_UNKNOWN, imago_disk_beside, NULL);
     if (code != IMAGO_DONE) {

@@ -160,7 +160,13 @@ pub struct Place {
 }
 
 unsafe extern "C" {
-    fn imago_image_open(image: *mut RawImage, length: u64, format: u32, strict: bool) -> u32;
+    fn imago_image_open_within(
+        image: *mut RawImage,
+        length: u64,
+        format: u32,
+        strict: bool,
+        tables: u64,
+    ) -> u32;
     fn imago_image_want(image: *mut RawImage, want: *mut Want) -> u32;
     fn imago_image_give(image: *mut RawImage, bytes: *const u8, count: usize) -> u32;
     fn imago_image_name(
@@ -187,11 +193,11 @@ unsafe extern "C" {
     ) -> u32;
 }
 
-pub fn image_open(image: &mut RawImage, length: u64, format: u32, strict: bool) -> u32 {
+pub fn image_open_within(image: &mut RawImage, length: u64, format: u32, tables: u64) -> u32 {
     // SAFETY: a `RawImage` is made of zeroes and is changed by these calls alone, to which it is
     // lent for as long as they take. It can't be copied, and isn't `Send`. The calls below are
     // called in the same way.
-    unsafe { imago_image_open(image, length, format, strict) }
+    unsafe { imago_image_open_within(image, length, format, false, tables) }
 }
 
 pub fn image_want(image: &mut RawImage, want: &mut Want) -> u32 {

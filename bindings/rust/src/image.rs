@@ -117,6 +117,10 @@ impl From<RawPlace> for Place {
     }
 }
 
+/// How many bytes the tables of each qcow2 file of an image may have, unless its caller says
+/// otherwise: 256 MiB, which are enough for a disk of less than 2 TiB in clusters of 64 KiB.
+pub const USUAL_TABLES: u64 = 256 << 20;
+
 /// An image that is being opened, or is open. It has no file: it asks for bytes, and is given them.
 #[derive(Debug)]
 pub struct Image {
@@ -124,10 +128,19 @@ pub struct Image {
 }
 
 impl Image {
-    /// Begins with the top file, which has that many bytes.
+    /// Begins with the top file, which has that many bytes. The tables of each qcow2 file may have
+    /// [`USUAL_TABLES`] bytes.
     pub fn new(length: u64, format: Format) -> Result<Image, Refusal> {
+        Image::within(length, format, USUAL_TABLES)
+    }
+
+    /// Begins with the top file, which has that many bytes, where the tables of each qcow2 file may
+    /// have `tables` bytes: 8 for each entry of the L1 table that its disk needs, and a cluster for
+    /// each L2 table. A file that needs more is [`Refusal::Unsupported`] before one of its L2
+    /// tables is asked for.
+    pub fn within(length: u64, format: Format, tables: u64) -> Result<Image, Refusal> {
         let mut image = Image { raw: RawImage::CLOSED };
-        answer(calls::image_open(&mut image.raw, length, format as u32, false))?;
+        answer(calls::image_open_within(&mut image.raw, length, format as u32, tables))?;
         Ok(image)
     }
 

@@ -34,7 +34,7 @@ use Rattle.std.proofs.alloc.Global.TheLaws as laws
 use Rattle.imago_c.specs.Held.{held}
 use Rattle.imago_session.specs.declared.session.Session.{Session}
 use Rattle.imago_c.specs.contracts.handle.Handle as handle
-use Rattle.imago_opaque.proofs.Values.{both}
+use Rattle.imago_c.proofs.Values.{both}
 
 abbrev pub Handle : RattleType
 Handle = handle.the_row

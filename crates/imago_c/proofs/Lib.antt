@@ -1,3 +1,4 @@
 -- SPDX-License-Identifier: MIT
 pub mod Handles
 pub mod Refusals
+pub mod Values

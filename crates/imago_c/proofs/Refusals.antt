@@ -1,16 +1,18 @@
 -- What a call that gives something answers where it is refused.
 -- SPDX-License-Identifier: MIT
-use Rattle.std.proofs.Common.{◌≡◌, ℕ, ◌<◌, ◌⊎◌, inl, Some, Result, Ok, Err, refl, sym, true≢false, arith}
-use Rattle.std.specs.Prelude.{IfErr, OnErr, IsOk}
+use Rattle.std.proofs.Common.{◌≡◌, ℕ, ◌<◌, ◌⊎◌, inl, Option, Some, Result, Ok, Err, refl, sym, subst, true≢false, arith}
+use Rattle.std.specs.Prelude.{IfErr, IfSome, OnErr, IsOk}
 use Rattle.imago_storage.specs.declared.error.Error.{Error}
 use Rattle.imago_session.specs.declared.session.Session.{Session}
+use Rattle.imago_access.specs.declared.access.FormatAccess.{FormatAccess}
 use Rattle.imago_session.specs.declared.session.State.{State}
+use Rattle.imago_session.specs.declared.session.State.TheVariants as S
 use Rattle.imago_session.specs.declared.session.Want.{Want}
 use Rattle.imago_session.specs.declared.session.Want.TheVariants as W
-use Rattle.imago_session.specs.Files.{File}
-use Rattle.imago_session.specs.Opening.{IsOf}
+use Rattle.imago_session.specs.Files.{File, Layer}
+use Rattle.imago_session.specs.Opening.{IsOf, IfOpen}
 use Rattle.imago_session.specs.Refusals.{IsRefusalOf}
-use Rattle.imago_c.specs.Answer.{answer_code}
+use Rattle.imago_c.specs.Answer.{answer_code, code_of}
 use Rattle.imago_c.specs.Images.{AsksBacking, AsksExtent, IsRefusedGive}
 
 pub give_refused : (a b : Session) (r : Result (Unit {0}) Error) (code : ℕ) (agree : (ℕ → File) → Type 0) → code ≡ answer_code r → 0 < code
@@ -43,3 +45,18 @@ extent_of (W.Backing k) P h f = absurd h
 extent_of (W.Extent k) P h f = f k refl
 extent_of W.Nothing P h f = absurd h
 extent_of W.Refused P h f = absurd h
+
+open_more : (s : State) (P Q : FormatAccess Layer → Type 0) → IfOpen s P → ((x : FormatAccess Layer) → P x → Q x) → IfOpen s Q
+open_more (S.Loading l) P Q h f = tt
+open_more (S.Below named) P Q h f = tt
+open_more (S.Extents p) P Q h f = tt
+open_more (S.Open image) P Q h f = f image h
+open_more S.Refused P Q h f = tt
+
+-- what an open image's session refuses to tell, in the numbers of C
+pub map_refused : (o : Option Session) (s : Session) (N : FormatAccess Layer → ℕ → Error → Type 0) (m n : ℕ) (e : Error) (code : ℕ) → o ≡ Some s → m ≡ n → code ≡ code_of e
+    → IfOpen s.state (λ x. N x m e) → IfSome o (λ y. IfOpen y.state (λ x. (cause : Error) × (code ≡ code_of cause) × N x n cause))
+map_refused o s N m n e code is same told h =
+    subst (λ (q : Option Session). IfSome q (λ y. IfOpen y.state (λ x. (cause : Error) × (code ≡ code_of cause) × N x n cause))) (sym is)
+    (open_more s.state (λ x. N x m e) (λ x. (cause : Error) × (code ≡ code_of cause) × N x n cause) h
+    (λ x k. (e, told, subst (λ (i : ℕ). N x i e) same k)))

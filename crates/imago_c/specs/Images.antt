@@ -13,6 +13,7 @@ use Rattle.imago_session.specs.declared.session.State.{State}
 use Rattle.imago_session.specs.declared.compressed.Compressed.{Compressed}
 use Rattle.imago_session.specs.declared.session.Mapped.{Mapped}
 use Rattle.imago_session.specs.declared.session.Mapped.TheVariants as M
+use Rattle.imago_session.specs.declared.permitted.Permitted.{Permitted}
 use Rattle.imago_session.specs.declared.session.Want.{Want}
 use Rattle.imago_session.specs.declared.session.Want.TheVariants as W
 use Rattle.imago_session.specs.Files.{File}
@@ -42,6 +43,10 @@ format_of n =
 abbrev pub accepted_by : Bool → Accepted
 accepted_by strict = record { unknown_keys = not strict; vmfs = true }
 
+-- what an image may contain whose qcow2 files have tables of so many bytes
+abbrev pub permitted_by : Bool → ℕ → Permitted
+permitted_by strict tables = record { accepted = accepted_by strict; tables = tables }
+
 -- a backing file is asked for
 abbrev pub AsksBacking : Want → Type 0
 AsksBacking (W.Backing k) = Unit {0}
@@ -59,10 +64,10 @@ AsksExtent W.Nothing = ⊥
 AsksExtent W.Refused = ⊥
 
 -- An opening doesn't begin, for a cause that each top file has of that length and format.
-abbrev pub IsRefusedBegin : Accepted → ℕ → Option Format → ℕ → Type 0
-IsRefusedBegin accepted count format code =
+abbrev pub IsRefusedBegin : Permitted → ℕ → Option Format → ℕ → Type 0
+IsRefusedBegin permitted count format code =
     (e : Error) × (code ≡ code_of e)
-    × ((f : File) → length f.bytes ≡ count → f.format ≡ format → IsCause accepted f e)
+    × ((f : File) → length f.bytes ≡ count → f.format ≡ format → IsCause permitted f e)
 
 -- What was asked for and given isn't taken, for a cause that all files have which agree with it and
 -- with what was given before. So the opening is over, or there was no memory and nothing changed.

@@ -6,7 +6,7 @@ ghost use Rattle.imago_session.specs.contracts.session.Session.{the_row};
 ghost use Rattle.imago_c.specs.Held.{held};
 ghost use Rattle.imago_session.specs.declared.session.Session.{Session};
 
-use imago_opaque::opaque::Opaque;
+use crate::opaque::Opaque;
 use imago_session::session::Session;
 use std::alloc::Global;
 use std::marker::Model;

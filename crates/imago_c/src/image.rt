@@ -3,7 +3,7 @@
 ghost use Rattle.std.specs.Prelude.{◌≡◌, ◌↔◌, IsSome, Some, None, true, MatchOption};
 
 use crate::handle::Handle;
-use imago_opaque::opaque::Opaque;
+use crate::opaque::Opaque;
 use imago_session::session::Session;
 use std::alloc::Global;
 use std::mem;

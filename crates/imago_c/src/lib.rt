@@ -10,6 +10,7 @@ pub mod code;
 mod front;
 pub mod handle;
 pub mod image;
+pub mod opaque;
 pub mod opening;
 pub mod plan;
 pub mod reading;

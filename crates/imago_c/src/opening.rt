@@ -1,22 +1,26 @@
 // SPDX-License-Identifier: MIT
 //! How an image is opened: it asks for bytes and for files, and its caller gives them.
 ghost use Rattle.std.specs.Prelude.{◌≡◌, ◌<◌, ◌≤◌, ℕ, None, Some, length, Err, IfOk, IfErr, OnOk};
-ghost use Rattle.std.specs.Prelude.{IsOk, OnErr, IfSome};
+ghost use Rattle.std.specs.Prelude.{IsOk, IsErr, OnErr, IfSome};
 ghost use Rattle.imago_storage.specs.declared.error.Error.{Error};
 ghost use Rattle.imago_session.specs.Files.{File};
+ghost use Rattle.imago_session.specs.Limits.{usual};
 ghost use Rattle.imago_session.specs.Opening.{IsOf, wanted, IsAnswer, IsFileAnswer, IsNameWanted};
 ghost use Rattle.imago_session.specs.Opening.{AsksNoBytes, AsksOtherCount, AsksCount, AsksNoFile};
+ghost use Rattle.imago_session.specs.Opening.{AsksFile, IsAtFirst, IsLedOn};
 ghost use Rattle.imago_session.specs.Refusals.{IsCause, IsRefusalOf};
 ghost use Rattle.imago_c.specs.Answer.{IsFront, code_of, answer_code};
 ghost use Rattle.imago_c.specs.Images.{Has, format_of as format_named, accepted_by, want_record};
-ghost use Rattle.imago_c.specs.Images.{most_formats, AsksBacking, AsksExtent};
+ghost use Rattle.imago_c.specs.Images.{most_formats, permitted_by, AsksBacking, AsksExtent};
 ghost use Rattle.imago_c.specs.Images.{IsRefusedBegin, IsRefusedGive};
 ghost use Rattle.imago_session.specs.declared.session.State.{State};
+ghost use Rattle.imago_session.specs.declared.session.Want.{Want};
 
 use crate::code::{DONE, code};
 use crate::front::put_front;
 use crate::image::Image;
 use imago_drivers::drivers::Format;
+use imago_session::permitted::Permitted;
 use imago_session::session::{Session, Want};
 use imago_storage::error::Error;
 use imago_vmdk::line::Accepted;
@@ -64,41 +68,37 @@ fn accepted(strict: bool) -> Accepted
 }
 
 /// The session of an opening that begins.
-fn begun(alloc: Global, count: u64, format: u32, strict: bool) -> Result<Box<Session>, Error>
-    ensures begun { IfOk result (λ s. (s.value.accepted ≡ accepted_by strict)
+fn begun(
+    alloc: Global,
+    count: u64,
+    format: u32,
+    permitted: Permitted,
+) -> Result<Box<Session>, Error>
+    ensures begun { IfOk result (λ s. (s.value.permitted ≡ permitted)
         × ((files : ℕ → File) → length (files 0).bytes ≡ count
-        → (files 0).format ≡ format_named format → IsOf files s.value)) }
+        → (files 0).format ≡ format_named format
+        → IsOf files s.value × IsAtFirst files s.value.state)) }
     ensures unknown { most_formats < format → result ≡ Err Error.Unsupported }
     ensures refused { format ≤ most_formats → IfErr result (λ e. (f : File)
-        → length f.bytes ≡ count → f.format ≡ format_named format
-        → IsCause (accepted_by strict) f e) }
+        → length f.bytes ≡ count → f.format ≡ format_named format → IsCause permitted f e) }
 {
     let format = format_of(format)?;
-    let session = Session::new(alloc, accepted(strict), count, format)?;
+    let session = Session::within(alloc, permitted, count, format)?;
     Ok(Box::new(alloc, session)?)
 }
 
-/// Begins with a top file of that many bytes, which is opened in the format of that number, or in
-/// the one that its bytes are recognised as. What the image had is freed. Refused, it is closed:
-/// by the number of no format, or for a cause of the file's.
-#[unsafe(no_mangle)]
-pub extern "C" fn imago_image_open(
-    alloc: Global,
-    image: &mut Image,
-    count: u64,
-    format: u32,
-    strict: bool,
-) -> u32
-    ensures opened { result ≡ 0 → Has image.new.handle.value
-        (λ s. (s.accepted ≡ accepted_by strict)
+/// Begins with a top file of that many bytes, of whose image so much is permitted. What the image
+/// had is freed. Refused, it is closed.
+fn open(alloc: Global, image: &mut Image, count: u64, format: u32, permitted: Permitted) -> u32
+    ensures opened { result ≡ 0 → Has image.new.handle.value (λ s. (s.permitted ≡ permitted)
         × ((files : ℕ → File) → length (files 0).bytes ≡ count
-        → (files 0).format ≡ format_named format → IsOf files s)) }
+        → (files 0).format ≡ format_named format → IsOf files s × IsAtFirst files s.state)) }
     ensures refused { 0 < result → image.new.handle.value ≡ None }
     ensures unknown { most_formats < format → result ≡ code_of Error.Unsupported }
     ensures cause { format ≤ most_formats → 0 < result
-        → IsRefusedBegin (accepted_by strict) count (format_named format) result }
+        → IsRefusedBegin permitted count (format_named format) result }
 {
-    match begun(alloc, count, format, strict) {
+    match begun(alloc, count, format, permitted) {
         Ok(session) => {
             *image = Image::of(session);
             DONE
@@ -110,9 +110,67 @@ pub extern "C" fn imago_image_open(
     }
 }
 
+/// Begins with a top file of that many bytes, which is opened in the format of that number, or in
+/// the one that its bytes are recognised as. The tables of each qcow2 file have at most
+/// [`USUAL_TABLES`](imago_qcow2::layout::USUAL_TABLES) bytes. What the image had is freed. Refused,
+/// it is closed: by the number of no format, or for a cause of the file's.
+#[unsafe(no_mangle)]
+pub extern "C" fn imago_image_open(
+    alloc: Global,
+    image: &mut Image,
+    count: u64,
+    format: u32,
+    strict: bool,
+) -> u32
+    ensures opened { result ≡ 0 → Has image.new.handle.value
+        (λ s. (s.permitted ≡ usual (accepted_by strict))
+        × ((files : ℕ → File) → length (files 0).bytes ≡ count
+        → (files 0).format ≡ format_named format → IsOf files s × IsAtFirst files s.state)) }
+    ensures refused { 0 < result → image.new.handle.value ≡ None }
+    ensures unknown { most_formats < format → result ≡ code_of Error.Unsupported }
+    ensures cause { format ≤ most_formats → 0 < result
+        → IsRefusedBegin (usual (accepted_by strict)) count (format_named format) result }
+{
+    open(
+        alloc,
+        image,
+        count,
+        format,
+        Permitted::usual(accepted(strict)),
+    )
+}
+
+/// Begins as [`imago_image_open`] does, where the tables of each qcow2 file have at most so many
+/// bytes.
+#[unsafe(no_mangle)]
+pub extern "C" fn imago_image_open_within(
+    alloc: Global,
+    image: &mut Image,
+    count: u64,
+    format: u32,
+    strict: bool,
+    tables: u64,
+) -> u32
+    ensures opened { result ≡ 0 → Has image.new.handle.value
+        (λ s. (s.permitted ≡ permitted_by strict tables)
+        × ((files : ℕ → File) → length (files 0).bytes ≡ count
+        → (files 0).format ≡ format_named format → IsOf files s × IsAtFirst files s.state)) }
+    ensures refused { 0 < result → image.new.handle.value ≡ None }
+    ensures unknown { most_formats < format → result ≡ code_of Error.Unsupported }
+    ensures cause { format ≤ most_formats → 0 < result
+        → IsRefusedBegin (permitted_by strict tables) count (format_named format) result }
+{
+    let permitted = Permitted {
+        accepted: accepted(strict),
+        tables,
+    };
+    open(alloc, image, count, format, permitted)
+}
+
 /// What is asked for, as a record. An opening that was refused is [`Error::InvalidData`].
 fn record_of(want: Want) -> Result<WantRecord, Error>
-    ensures { IfOk result (λ r. r ≡ want_record want) }
+    ensures told { IfOk result (λ r. r ≡ want_record want) }
+    ensures refused { IsErr result → want ≡ Want.Refused }
 {
     let (kind, file, offset, count) = match want {
         Want::Nothing => (0, 0, 0, 0),
@@ -137,6 +195,7 @@ pub extern "C" fn imago_image_want(alloc: Global, image: &mut Image, want: &mut 
     ensures told { result ≡ 0
         → Has image.old.handle.value (λ s. want.new ≡ want_record (wanted s)) }
     ensures refused { 0 < result → want.new ≡ want.old }
+    ensures cause { 0 < result → IfSome image.old.handle.value (λ s. wanted s ≡ Want.Refused) }
     ensures closed { image.old.handle.value ≡ None → result ≡ code_of Error.NotFound }
 {
     let Some(session) = image.take(alloc) else {
@@ -168,7 +227,7 @@ fn answer(answer: Result<(), Error>) -> u32
 pub extern "C" fn imago_image_give(alloc: Global, image: &mut Image, bytes: &[u8]) -> u32
     ensures agrees { result ≡ 0 → Has image.old.handle.value (λ a. Has image.new.handle.value
         (λ b. (files : ℕ → File) → IsAnswer files (wanted a) bytes.now → IsOf files a
-        → IsOf files b)) }
+        → IsOf files b × IsLedOn files a.state b.state)) }
     ensures unasked { IfSome image.old.handle.value (λ s. AsksNoBytes (wanted s)
         → (result ≡ code_of Error.Unsupported) × (image.new.handle.value ≡ Some s)) }
     ensures miscounted { IfSome image.old.handle.value
@@ -192,7 +251,8 @@ pub extern "C" fn imago_image_give(alloc: Global, image: &mut Image, bytes: &[u8
 fn give_file(session: &mut Session, count: u64, format: u32) -> Result<(), Error>
     ensures agrees { OnOk result ((files : ℕ → File)
         → IsFileAnswer files (wanted session.old) count (format_named format)
-        → IsOf files session.old → IsOf files session.new) }
+        → IsOf files session.old
+        → IsOf files session.new × IsLedOn files session.old.state session.new.state) }
     ensures unasked { AsksNoFile (wanted session.old)
         → (result ≡ Err Error.Unsupported) × (session.new ≡ session.old) }
     ensures unknown { most_formats < format
@@ -222,7 +282,7 @@ pub extern "C" fn imago_image_give_file(
     ensures agrees { result ≡ 0 → Has image.old.handle.value (λ a. Has image.new.handle.value
         (λ b. (files : ℕ → File)
         → IsFileAnswer files (wanted a) count (format_named format) → IsOf files a
-        → IsOf files b)) }
+        → IsOf files b × IsLedOn files a.state b.state)) }
     ensures unasked { IfSome image.old.handle.value (λ s. AsksNoFile (wanted s)
         → (result ≡ code_of Error.Unsupported) × (image.new.handle.value ≡ Some s)) }
     ensures unknown { most_formats < format → IfSome image.old.handle.value
@@ -256,6 +316,7 @@ pub extern "C" fn imago_image_name(
         × IsFront name.old whole name.new × (told.new ≡ length whole)
         × ((files : ℕ → File) → IsOf files s → IsNameWanted files s whole)) }
     ensures refused { 0 < result → (name.new ≡ name.old) × (told.new ≡ told.old) }
+    ensures cause { 0 < result → IfSome image.old.handle.value (λ s. AsksFile (wanted s) → ⊥) }
     ensures closed { image.old.handle.value ≡ None → result ≡ code_of Error.NotFound }
 {
     let Some(session) = image.take(alloc) else {

@@ -1,12 +1,13 @@
 // SPDX-License-Identifier: MIT
 //! Where the bytes of an open image's disk are.
-ghost use Rattle.std.specs.Prelude.{◌≡◌, ◌<◌, ℕ, max, length, None, Ok, IsErr};
+ghost use Rattle.std.specs.Prelude.{◌≡◌, ◌<◌, ℕ, max, length, None, Ok, IsErr, IfSome};
 ghost use Rattle.imago_storage.specs.declared.error.Error.{Error};
 ghost use Rattle.imago_inflate.specs.Inflate.{inflated};
 ghost use Rattle.imago_access.specs.Target.{target};
+ghost use Rattle.imago_plan.specs.Pieces.{IsNoPiece};
 ghost use Rattle.imago_session.specs.declared.session.Mapped.{Mapped};
 ghost use Rattle.imago_session.specs.Files.{File, described_size};
-ghost use Rattle.imago_session.specs.Opening.{IsOpenWith, IsOf};
+ghost use Rattle.imago_session.specs.Opening.{IsOpenWith, IsOf, IfOpen};
 ghost use Rattle.imago_session.specs.Mapping.{IsMappedAt, ShowsMapped};
 ghost use Rattle.imago_c.specs.Answer.{code_of};
 ghost use Rattle.imago_c.specs.Images.{Has, piece_place, compressed_place, place_record};
@@ -105,6 +106,7 @@ pub extern "C" fn imago_image_size(alloc: Global, image: &mut Image, size: &mut 
     ensures told { result ≡ 0 → Has image.old.handle.value (λ s. IsOpenWith s.state
         (λ x. (files : ℕ → File) → IsOf files s → size.new ≡ described_size files x)) }
     ensures refused { 0 < result → size.new ≡ size.old }
+    ensures cause { 0 < result → IfSome image.old.handle.value (λ s. IfOpen s.state (λ x. ⊥)) }
     ensures closed { image.old.handle.value ≡ None → result ≡ code_of Error.NotFound }
 {
     let Some(session) = image.take(alloc) else {
@@ -136,6 +138,9 @@ pub extern "C" fn imago_image_map(
         × (place.new ≡ place_record m) × IsMappedAt (target view x) «offset» (max most 1) m
         × ((files : ℕ → File) → IsOf files s → ShowsMapped files «offset» m x))) }
     ensures refused { 0 < result → place.new ≡ place.old }
+    ensures cause { let view = ⟦<Layer as FormatDriverInstance>⟧.view in
+        0 < result → IfSome image.old.handle.value (λ s. IfOpen s.state (λ x. (e : Error)
+        × (result ≡ code_of e) × IsNoPiece view x «offset» (max most 1) e)) }
     ensures closed { image.old.handle.value ≡ None → result ≡ code_of Error.NotFound }
 {
     let Some(session) = image.take(alloc) else {

@@ -10,6 +10,7 @@ use imago_inflate::inflate::inflate;
 use imago_plan::piece::{Piece, Source};
 use imago_qcow2::qcow2::Qcow2;
 use imago_session::compressed::Compressed;
+use imago_session::permitted::Permitted;
 use imago_session::session::{Mapped, Session, Want};
 use imago_storage::error::Error;
 use imago_storage::mem::MemStorage;
@@ -72,6 +73,33 @@ static PACKED: File = File {
         (1541, b"KLJNIMK\xcfH\x1c\xa5G$\r\0304261537\x18\xa5G$\r\0"),
         (1584, &[7]),
         (2037, b"K\xcdK\xd1K\x1d\xc5#\x16\x03\x00"),
+    ],
+};
+
+/// The first block of a file in clusters of 64 KiB whose L1 table has 32 MiB, of which its disk needs
+/// the first entry.
+static FULL_L1: File = File {
+    name: b"",
+    length: 65536,
+    parts: &[
+        (0, b"QFI\xfb\0\0\0\x02"),
+        (23, &[16]),
+        (29, &[3]),
+        (36, &[0, 0x40, 0, 0]),
+        (45, &[1]),
+    ],
+};
+
+/// The same with an entry more.
+static LONG_L1: File = File {
+    name: b"",
+    length: 65536,
+    parts: &[
+        (0, b"QFI\xfb\0\0\0\x02"),
+        (23, &[16]),
+        (29, &[3]),
+        (36, &[0, 0x40, 0, 1]),
+        (45, &[1]),
     ],
 };
 
@@ -473,6 +501,42 @@ fn faults_are_refused(rt: HostRuntime) -> Result<(), Fail> {
     ] {
         check_fault(&rt, rt.alloc(), file, format, fault)?;
     }
+    Ok(())
+}
+
+/// Whether the tables of a file, which begins with that block, are as many as they may be.
+fn give_within(
+    alloc: Global,
+    block: &File,
+    length: u64,
+    tables: u64,
+) -> Result<Result<(), Error>, Error> {
+    let permitted = Permitted {
+        accepted: Accepted {
+            unknown_keys: false,
+            vmfs: false,
+        },
+        tables,
+    };
+    let mut session = Session::within(alloc, permitted, length, Some(Format::Qcow2))?;
+    let block = bytes_of(alloc, block)?;
+    Ok(session.give(&block))
+}
+
+/// The tables of a file have no more bytes than they may: 8 for its L1 entry, and 512 for the L2
+/// table. Its L1 table has at most 32 MiB.
+fn check_limits(rt: &impl Abort, alloc: Global) -> Result<(), Error> {
+    let unsupported = Err(Error::Unsupported);
+    assert_eq!(rt; give_within(alloc, &PACKED, 2048, 520)?, Ok(()));
+    assert_eq!(rt; give_within(alloc, &PACKED, 2048, 519)?, unsupported);
+    assert_eq!(rt; give_within(alloc, &LONG_L1, 1 << 26, 1 << 40)?, unsupported);
+    assert_eq!(rt; give_within(alloc, &FULL_L1, 1 << 26, 1 << 40)?, Ok(()));
+    Ok(())
+}
+
+#[test]
+fn tables_have_no_more_bytes_than_they_may(rt: HostRuntime) -> Result<(), Fail> {
+    check_limits(&rt, rt.alloc())?;
     Ok(())
 }
 

@@ -25,13 +25,15 @@ use Rattle.imago_session.specs.declared.loading.Tables.{Tables}
 use Rattle.imago_session.specs.declared.loading.Loading.{Loading}
 use Rattle.imago_session.specs.Blocks.{IsPartOf}
 use Rattle.imago_session.specs.Known.{AreTablesOf, AreKnownOf}
+use Rattle.imago_session.specs.Limits.{IsHeadFault, IsTableFault}
+use Rattle.imago_qcow2.specs.Limit.{l1_length}
 use Rattle.imago_session.specs.Files.{backing_name, HasBacking}
 use Rattle.imago_session.specs.Found.{IsBlockGiven, block_start, block_count}
 use Rattle.imago_session.proofs.ReadSteps.{same_read, head_front}
 
 -- the first cluster is the file's
-pub front_of : (bytes : List ℕ) (f : LoadedFile) (t : Tables) → IsPartOf bytes f → AreTablesOf bytes f t → AreSameBytes bytes (loaded_bytes f) 0 (cluster_length bytes)
-front_of bytes f t part of i lt =
+pub front_of : (most : ℕ) (bytes : List ℕ) (f : LoadedFile) (t : Tables) → IsPartOf bytes f → AreTablesOf most bytes f t → AreSameBytes bytes (loaded_bytes f) 0 (cluster_length bytes)
+front_of most bytes f t part of i lt =
     let h = of.head in
     let same : (j : ℕ) → j < 112 → slice_index h.0 j ≡ slice_index bytes j = λ j less. let e : 0 + j ≡ j = omega arith in byte_at bytes h.0 0 112 j h.1 less ∙ ap (slice_index bytes) e in
     let cluster : t.table.cluster ≡ cluster_length bytes = h.4 ∙ ap (λ (n : ℕ). 2 ^ n) (same32 bytes h.0 same 20 (omega arith)) in
@@ -40,11 +42,12 @@ front_of bytes f t part of i lt =
     subst (λ (n : ℕ). slice_index bytes n ≡ slice_index (loaded_bytes f) n) e (front_same bytes f t.table.cluster part.0 part.1 f.positive of.first i under)
 
 -- what is known stays so where more is in memory
-pub known_kept : (bytes : List ℕ) (a b : LoadedFile) (o : Option Tables) → Keeps a b → AreKnownOf bytes a o → AreKnownOf bytes b o
-known_kept bytes a b None keeps h = tt
-known_kept bytes a b (Some t) keeps h = record {
+pub known_kept : (most : ℕ) (bytes : List ℕ) (a b : LoadedFile) (o : Option Tables) → Keeps a b → AreKnownOf most bytes a o → AreKnownOf most bytes b o
+known_kept most bytes a b None keeps h = tt
+known_kept most bytes a b (Some t) keeps h = record {
   head = h.head;
   entries = h.entries;
+  few = h.few;
   first = subst (λ (n : ℕ). AreThere b 0 (min t.table.cluster n)) (sym keeps.len) (there_stays a b 0 (min t.table.cluster a.length) keeps h.first);
   l1 = there_stays a b t.table.start (8 * t.table.count) keeps h.l1;
   l2 = λ i at lt is. there_stays a b at t.table.cluster keeps
@@ -131,10 +134,14 @@ name_is bytes own xs {h} same front ok some len read full =
 
 -- why a header is refused, by the file
 pub head_refused : (f : LoadedFile) → AreThere f 0 (min 112 f.length) → (e : Error)
-    → (e ≡ Error.Memory) ⊎ ((head : List ℕ) × (length head ≡ 112) × IsReadAt (loaded_bytes f) 0 head × (header_of head f.length ≡ Err e))
-    → (e ≡ Error.Memory) ⊎ ((bytes : List ℕ) → IsPartOf bytes f → header_of bytes (length bytes) ≡ Err e)
-head_refused f there e (inl memory) = inl memory
-head_refused f there e (inr h) = inr (λ bytes part.
-    ap (header_of bytes) part.1
-    ∙ sym (header_same bytes h.0 (head_front bytes f h.0 part there h.1 h.2) f.length)
-    ∙ h.3)
+    → (e ≡ Error.Memory) ⊎ ((head : List ℕ) × (length head ≡ 112) × IsReadAt (loaded_bytes f) 0 head × IsHeadFault head f.length e)
+    → (most : ℕ) → (e ≡ Error.Memory) ⊎ ((bytes : List ℕ) → IsPartOf bytes f → IsTableFault most bytes e)
+head_refused f there e (inl memory) most = inl memory
+head_refused f there e (inr h) most = inr (λ bytes part.
+    let same = head_front bytes f h.0 part there h.1 h.2 in
+    ⊎_elim
+    (λ (fault : header_of h.0 f.length ≡ Err e). inl (ap (header_of bytes) part.1 ∙ sym (header_same bytes h.0 same f.length) ∙ fault))
+    (λ (long : (2 ^ 25 < l1_length h.0) × (e ≡ Error.Unsupported)).
+    let own : be32 h.0 36 ≡ be32 bytes 36 = same32 bytes h.0 same 36 (omega arith) in
+    inr (inl (omega (arith, long.0, own)), long.1))
+    h.3)

@@ -3,65 +3,65 @@
 use Rattle.std.proofs.Common.{◌≡◌, ℕ, suc, ◌+◌, List, [], ◌∷◌, ◌++◌, length, length-append, Option, Some, None, Box, Global, refl, sym, subst, ap, ◌∙◌, arith}
 use Rattle.imago_access.specs.declared.access.FormatAccess.{FormatAccess, out-FormatAccess, is-FormatAccess', back-FormatAccess-backing}
 use Rattle.imago_access.specs.Chain.{driver, backing, unboxed}
-use Rattle.imago_vmdk.specs.declared.line.Accepted.{Accepted}
+use Rattle.imago_session.specs.declared.permitted.Permitted.{Permitted}
 use Rattle.imago_session.specs.Files.{File, Layer, IsLayerOf, GoesDown, IsLowest, AreAbove, AreLayersOf, AreBelow, extent_names, names_in, names_below, layers_in, layers_below}
 
-module _ (accepted : Accepted) where
-  pub above_last : (files : ℕ → File) (ds : List Layer) (d : Layer) → AreAbove accepted files (ds ++ d ∷ [])
-      → AreAbove accepted files ds × IsLayerOf accepted d (files (length ds)) × GoesDown d (files (length ds)).bytes
+module _ (permitted : Permitted) where
+  pub above_last : (files : ℕ → File) (ds : List Layer) (d : Layer) → AreAbove permitted files (ds ++ d ∷ [])
+      → AreAbove permitted files ds × IsLayerOf permitted d (files (length ds)) × GoesDown d (files (length ds)).bytes
   above_last files [] d h = (tt, h.0, h.1)
   above_last files (x ∷ xs) d h = let r = above_last (λ (k : ℕ). files (suc k)) xs d h.2 in ((h.0, h.1, r.0), r.1, r.2)
 
-  pub above_more : (files : ℕ → File) (ds : List Layer) (d : Layer) → AreAbove accepted files ds → IsLayerOf accepted d (files (length ds)) → GoesDown d (files (length ds)).bytes
-      → AreAbove accepted files (ds ++ d ∷ [])
+  pub above_more : (files : ℕ → File) (ds : List Layer) (d : Layer) → AreAbove permitted files ds → IsLayerOf permitted d (files (length ds)) → GoesDown d (files (length ds)).bytes
+      → AreAbove permitted files (ds ++ d ∷ [])
   above_more files [] d h s g = (s, g, tt)
   above_more files (x ∷ xs) d h s g = (h.0, h.1, above_more (λ (k : ℕ). files (suc k)) xs d h.2 s g)
 
   -- an image by its driver and what is below
-  by_parts : (files : ℕ → File) (x : FormatAccess Layer) → IsLayerOf accepted (driver x) (files 0)
-      → AreBelow accepted (λ (k : ℕ). files (suc k)) (driver x) (files 0).bytes (back-FormatAccess-backing Layer (out-FormatAccess Layer x).backing)
-      → AreLayersOf accepted files x
-  by_parts files x own below = subst (λ (y : FormatAccess Layer). AreLayersOf accepted files y) (sym (is-FormatAccess' x)) (own, below)
+  by_parts : (files : ℕ → File) (x : FormatAccess Layer) → IsLayerOf permitted (driver x) (files 0)
+      → AreBelow permitted (λ (k : ℕ). files (suc k)) (driver x) (files 0).bytes (back-FormatAccess-backing Layer (out-FormatAccess Layer x).backing)
+      → AreLayersOf permitted files x
+  by_parts files x own below = subst (λ (y : FormatAccess Layer). AreLayersOf permitted files y) (sym (is-FormatAccess' x)) (own, below)
 
   none_below : (files : ℕ → File) (d : Layer) (bytes : List ℕ) (b : Option (Box (FormatAccess Layer) Global)) → unboxed b ≡ None → IsLowest d bytes
-      → AreBelow accepted files d bytes (back-FormatAccess-backing Layer b)
+      → AreBelow permitted files d bytes (back-FormatAccess-backing Layer b)
   none_below files d bytes None e low = low
   none_below files d bytes (Some z) e low = let q : ⊥ = cc e in absurd q
 
-  some_below : (files : ℕ → File) (d : Layer) (bytes : List ℕ) (y : FormatAccess Layer) (b : Option (Box (FormatAccess Layer) Global)) → unboxed b ≡ Some y → GoesDown d bytes → AreLayersOf accepted files y
-      → AreBelow accepted files d bytes (back-FormatAccess-backing Layer b)
+  some_below : (files : ℕ → File) (d : Layer) (bytes : List ℕ) (y : FormatAccess Layer) (b : Option (Box (FormatAccess Layer) Global)) → unboxed b ≡ Some y → GoesDown d bytes → AreLayersOf permitted files y
+      → AreBelow permitted files d bytes (back-FormatAccess-backing Layer b)
   some_below files d bytes y None e goes rest = let q : ⊥ = cc e in absurd q
-  some_below files d bytes y (Some z) e goes rest = let q : z.value ≡ y = cc e in (goes, subst (λ (v : FormatAccess Layer). AreLayersOf accepted files v) (sym q) rest)
+  some_below files d bytes y (Some z) e goes rest = let q : z.value ≡ y = cc e in (goes, subst (λ (v : FormatAccess Layer). AreLayersOf permitted files v) (sym q) rest)
 
   -- the lowest layer
-  pub laid_first : (files : ℕ → File) (n : ℕ) (x : FormatAccess Layer) (d : Layer) → driver x ≡ d → backing x ≡ None → IsLayerOf accepted d (files n) → IsLowest d (files n).bytes
-      → AreLayersOf accepted (λ (k : ℕ). files (n + k)) x
+  pub laid_first : (files : ℕ → File) (n : ℕ) (x : FormatAccess Layer) (d : Layer) → driver x ≡ d → backing x ≡ None → IsLayerOf permitted d (files n) → IsLowest d (files n).bytes
+      → AreLayersOf permitted (λ (k : ℕ). files (n + k)) x
   laid_first files n x d is none own low =
       let e : n ≡ n + 0 = omega arith in
       by_parts (λ (k : ℕ). files (n + k)) x
-      (subst (λ (z : Layer). IsLayerOf accepted z (files (n + 0))) (sym is) (subst (λ (m : ℕ). IsLayerOf accepted d (files m)) e own))
+      (subst (λ (z : Layer). IsLayerOf permitted z (files (n + 0))) (sym is) (subst (λ (m : ℕ). IsLayerOf permitted d (files m)) e own))
       (none_below (λ (k : ℕ). files (n + suc k)) (driver x) (files (n + 0)).bytes (out-FormatAccess Layer x).backing none
       (subst (λ (z : Layer). IsLowest z (files (n + 0)).bytes) (sym is) (subst (λ (m : ℕ). IsLowest d (files m).bytes) e low)))
 
   -- a layer on others
   pub laid_more : (files : ℕ → File) (ds : List Layer) (d : Layer) (x y : FormatAccess Layer) → driver y ≡ d → backing y ≡ Some x
-      → IsLayerOf accepted d (files (length ds)) → GoesDown d (files (length ds)).bytes → AreLayersOf accepted (λ (k : ℕ). files (length (ds ++ d ∷ []) + k)) x
-      → AreLayersOf accepted (λ (k : ℕ). files (length ds + k)) y
+      → IsLayerOf permitted d (files (length ds)) → GoesDown d (files (length ds)).bytes → AreLayersOf permitted (λ (k : ℕ). files (length (ds ++ d ∷ []) + k)) x
+      → AreLayersOf permitted (λ (k : ℕ). files (length ds + k)) y
   laid_more files ds d x y is on own goes rest =
       let e : length ds ≡ length ds + 0 = omega arith in
       let l : length (ds ++ d ∷ []) ≡ length ds + 1 = length-append ds (d ∷ []) in
       let far : (k : ℕ) → length (ds ++ d ∷ []) + k ≡ length ds + suc k = λ k. omega (arith, l) in
       by_parts (λ (k : ℕ). files (length ds + k)) y
-      (subst (λ (z : Layer). IsLayerOf accepted z (files (length ds + 0))) (sym is) (subst (λ (m : ℕ). IsLayerOf accepted d (files m)) e own))
+      (subst (λ (z : Layer). IsLayerOf permitted z (files (length ds + 0))) (sym is) (subst (λ (m : ℕ). IsLayerOf permitted d (files m)) e own))
       (some_below (λ (k : ℕ). files (length ds + suc k)) (driver y) (files (length ds + 0)).bytes x (out-FormatAccess Layer y).backing on
       (subst (λ (z : Layer). GoesDown z (files (length ds + 0)).bytes) (sym is) (subst (λ (m : ℕ). GoesDown d (files m).bytes) e goes))
-      (subst (λ (f : ℕ → File). AreLayersOf accepted f x) (λ i k. files (far k i)) rest))
+      (subst (λ (f : ℕ → File). AreLayersOf permitted f x) (λ i k. files (far k i)) rest))
 
   -- all of them
-  pub laid_all : (files : ℕ → File) (ds : List Layer) (x : FormatAccess Layer) → ds ≡ [] → AreLayersOf accepted (λ (k : ℕ). files (length ds + k)) x → AreLayersOf accepted files x
+  pub laid_all : (files : ℕ → File) (ds : List Layer) (x : FormatAccess Layer) → ds ≡ [] → AreLayersOf permitted (λ (k : ℕ). files (length ds + k)) x → AreLayersOf permitted files x
   laid_all files ds x none h =
       let at : (k : ℕ) → length ds + k ≡ k = λ k. subst (λ (z : List Layer). length z + k ≡ k) (sym none) (omega arith) in
-      subst (λ (f : ℕ → File). AreLayersOf accepted f x) (λ i k. files (at k i)) h
+      subst (λ (f : ℕ → File). AreLayersOf permitted f x) (λ i k. files (at k i)) h
 
 pub nil_of : (xs : List Layer) → length xs ≡ 0 → xs ≡ []
 nil_of [] h = refl

@@ -10,7 +10,7 @@ use Rattle.imago_drivers.specs.declared.mapping.Ticket.{Ticket}
 use Rattle.imago_access.specs.declared.access.FormatAccess.{FormatAccess, FormatAccess', Held-FormatAccess-backing, None', Some', is-FormatAccess', out-FormatAccess, back-FormatAccess-backing}
 use Rattle.imago_access.specs.Chain.{driver}
 use Rattle.imago_access.specs.Target.{Target, target, target_below, followed}
-use Rattle.imago_vmdk.specs.declared.line.Accepted.{Accepted}
+use Rattle.imago_session.specs.declared.permitted.Permitted.{Permitted}
 use Rattle.imago_vmdk.specs.Vmdk.{vmdk_place}
 use Rattle.imago_vmdk.specs.Disk.{with_bytes, places_read}
 use Rattle.imago_vmdk.specs.Reading.{reading_of}
@@ -48,9 +48,9 @@ raw_with : (b : ℕ → List ℕ) (own : List ℕ) (p : ℕ) (inside : Bool)
 raw_with b own p true = refl
 raw_with b own p false = refl
 
-module _ (law : StandAlike) (accepted : Accepted) where
+module _ (law : StandAlike) (permitted : Permitted) where
   -- a place of a layer, where its storages have other bytes, is the one that the files say
-  pub layer_shows : (d : Layer) (b : ℕ → List ℕ) → IsOver accepted d (b 0) → (p : ℕ) → IsNoSpecial ((view_of d).place p)
+  pub layer_shows : (d : Layer) (b : ℕ → List ℕ) → IsOver permitted d (b 0) → (p : ℕ) → IsNoSpecial ((view_of d).place p)
       → with_bytes b ((view_of d).place p) ≡ described_by d b p
   layer_shows (Of.Raw r) b over p other =
       raw_with b (loaded_bytes r.storage) p (nat_lt p r.size)
@@ -101,24 +101,24 @@ module _ (law : StandAlike) (accepted : Accepted) where
   own_numbered bytes files are s = let e : 0 + s ≡ s = omega arith in are 0 s ∙ ap (λ (n : ℕ). (files n).bytes) e
 
   mutual
-    pub layers_show : (bytes : ℕ → ℕ → List ℕ) (files : ℕ → File) → AreNumbered bytes files → (x : FormatAccess Layer) → AreLayersOf accepted files x
+    pub layers_show : (bytes : ℕ → ℕ → List ℕ) (files : ℕ → File) → AreNumbered bytes files → (x : FormatAccess Layer) → AreLayersOf permitted files x
         → (p : ℕ) → IsNoSpecial (target view_of x p).place → target_value bytes (target view_of x p) ≡ described_value files x p
     layers_show bytes files are (FormatAccess' inner below) h p other =
         let own : (s : ℕ) → bytes 0 s ≡ (files s).bytes = own_numbered bytes files are in
-        let over : IsOver accepted inner (bytes 0 0) = subst (λ (xs : List ℕ). IsOver accepted inner xs) (sym (own 0)) h.0.1 in
+        let over : IsOver permitted inner (bytes 0 0) = subst (λ (xs : List ℕ). IsOver permitted inner xs) (sym (own 0)) h.0.1 in
         let rest : ℕ → Value = described_below (λ k. files (suc k)) below in
         followed_value bytes (target_below view_of below) rest (below_show (λ k. bytes (suc k)) (λ k. files (suc k)) (next_numbered bytes files are) inner (files 0).bytes below h.1) ((view_of inner).place p) other
         ∙ ap (shown rest) (layer_shows inner (bytes 0) over p (not_here (target_below view_of below) ((view_of inner).place p) other))
         ∙ ap (λ (b : ℕ → List ℕ). shown rest (described_by inner b p)) (λ i s. own s i)
 
-    below_show : (bytes : ℕ → ℕ → List ℕ) (files : ℕ → File) → AreNumbered bytes files → (inner : Layer) (top : List ℕ) (below : Held-FormatAccess-backing Layer) → AreBelow accepted files inner top below
+    below_show : (bytes : ℕ → ℕ → List ℕ) (files : ℕ → File) → AreNumbered bytes files → (inner : Layer) (top : List ℕ) (below : Held-FormatAccess-backing Layer) → AreBelow permitted files inner top below
         → (q : ℕ) → IsNoSpecial (target_below view_of below q).place → target_value bytes (target_below view_of below q) ≡ described_below files below q
     below_show bytes files are inner top None' h q other = refl
     below_show bytes files are inner top (Some' k x) h q other = layers_show bytes files are x h.1 q other
 
-module _ (accepted : Accepted) where
+module _ (permitted : Permitted) where
   -- the size of a layer
-  pub layer_size : (d : Layer) (bytes : List ℕ) → IsOver accepted d bytes → (view_of d).size ≡ size_by d bytes
+  pub layer_size : (d : Layer) (bytes : List ℕ) → IsOver permitted d bytes → (view_of d).size ≡ size_by d bytes
   layer_size (Of.Raw r) bytes over = over
   layer_size (Of.Vmdk v) bytes over =
       sym v.sized
@@ -130,9 +130,9 @@ module _ (accepted : Accepted) where
       size_told loaded_features own refl q.header q.tables q.cluster.length q.cluster_is q.loaded
       ∙ sym (range64 bytes own 0 112 over.0.header 24 (omega arith))
 
-  pub image_size : (files : ℕ → File) (x : FormatAccess Layer) → AreLayersOf accepted files x → (view_of (driver x)).size ≡ size_by (driver x) (files 0).bytes
+  pub image_size : (files : ℕ → File) (x : FormatAccess Layer) → AreLayersOf permitted files x → (view_of (driver x)).size ≡ size_by (driver x) (files 0).bytes
   image_size files x h =
-      let here : AreLayersOf accepted files (FormatAccess' (driver x) (back-FormatAccess-backing Layer (out-FormatAccess Layer x).backing)) = subst (λ (y : FormatAccess Layer). AreLayersOf accepted files y) (is-FormatAccess' x) h in
+      let here : AreLayersOf permitted files (FormatAccess' (driver x) (back-FormatAccess-backing Layer (out-FormatAccess Layer x).backing)) = subst (λ (y : FormatAccess Layer). AreLayersOf permitted files y) (is-FormatAccess' x) h in
       layer_size (driver x) (files 0).bytes here.0.1
 
 -- where a source stands isn't made up

@@ -10,6 +10,7 @@ use Rattle.imago_storage.specs.declared.error.Error.TheVariants as E
 use Rattle.imago_storage.specs.Padding.{Wraps}
 use Rattle.imago_storage.proofs.Padding.{next_below}
 use Rattle.imago_drivers.specs.Reasons.{none, allowed}
+use Rattle.imago_session.specs.declared.permitted.Permitted.{Permitted}
 use Rattle.imago_vmdk.specs.declared.line.Accepted.{Accepted}
 use Rattle.imago_vmdk.specs.declared.line.Extent.{Extent}
 use Rattle.imago_vmdk.specs.Line.{extent_with}
@@ -145,7 +146,7 @@ no_both false b h = refl
 -- a descriptor that is too long has no reading
 pub long_descriptor : (accepted : Accepted) (bytes : List ℕ) → 2097152 < length bytes → reading_of accepted bytes ≡ Err Error.InvalidData
 unfolding reading_of
-long_descriptor accepted bytes long =
+long_descriptor permitted bytes long =
     let t : nat_lt (length bytes) (2 ^ 21 + 1) ≡ false = le-ltb (length bytes) (2 ^ 21 + 1) (omega (arith, long)) in
     let z : (nat_lt 3 (length bytes) && nat_lt (length bytes) (2 ^ 21 + 1)) ≡ false = no_both (nat_lt 3 (length bytes)) (nat_lt (length bytes) (2 ^ 21 + 1)) t in
     rw z refl
@@ -167,14 +168,14 @@ format_refused cluster says e small (inr r) = inl (memory_alone (λ (x : Error).
     (λ x (w : (x ≡ Error.WrapAround) × ExtensionWraps cluster). let t : ExtensionWraps cluster = w.1 in no_wrap t.0 t.1 (omega (arith, small, t.2)) t.3) e r)
 
 -- a fault in a file's own format is a cause
-pub cause_of : (accepted : Accepted) (f : File) (format : Format) (e : Error) → IsFormatOf f format → IsFaultOrMemory accepted f.bytes format e → IsCause accepted f e
-cause_of accepted f format e is (inl memory) = inl memory
-cause_of accepted f format e is (inr fault) = inr (inl (format, is, fault))
+pub cause_of : (permitted : Permitted) (f : File) (format : Format) (e : Error) → IsFormatOf f format → IsFaultOrMemory permitted f.bytes format e → IsCause permitted f e
+cause_of permitted f format e is (inl memory) = inl memory
+cause_of permitted f format e is (inr fault) = inr (inl (format, is, fault))
 
 -- and so is that it is recognised as what isn't opened
-pub foreign_cause : (accepted : Accepted) (f : File) (said : Option Format) (e : Error) → f.format ≡ said → IsForeignOrMemory said f.bytes e → IsCause accepted f e
-foreign_cause accepted f said e says (inl memory) = inl memory
-foreign_cause accepted f said e says (inr foreign) = inr (inr (says ∙ foreign.0, foreign.1, foreign.2))
+pub foreign_cause : (permitted : Permitted) (f : File) (said : Option Format) (e : Error) → f.format ≡ said → IsForeignOrMemory said f.bytes e → IsCause permitted f e
+foreign_cause permitted f said e says (inl memory) = inl memory
+foreign_cause permitted f said e says (inr foreign) = inr (inr (says ∙ foreign.0, foreign.1, foreign.2))
 
 -- and so is what a layer's file is refused for that names one below
 abbrev pub IsBelowRefused : Layer → List ℕ → Error → Type 0
@@ -185,17 +186,17 @@ IsBelowRefused (Of.Qcow2 q) bytes e =
     HaveSameTables bytes (loaded_bytes (storage_in q))
     → AreSameBytes bytes (loaded_bytes (storage_in q)) 0 (cluster_length bytes) → (e ≡ Error.Memory) ⊎ HasFaultyFormat bytes e
 
-qcow2_cause : (accepted : Accepted) (f : File) (e : Error) → IsFormatOf f Format.Qcow2 → (e ≡ Error.Memory) ⊎ HasFaultyFormat f.bytes e → IsCause accepted f e
-qcow2_cause accepted f e is (inl memory) = inl memory
-qcow2_cause accepted f e is (inr fault) = inr (inl (Format.Qcow2, is, inr fault))
+qcow2_cause : (permitted : Permitted) (f : File) (e : Error) → IsFormatOf f Format.Qcow2 → (e ≡ Error.Memory) ⊎ HasFaultyFormat f.bytes e → IsCause permitted f e
+qcow2_cause permitted f e is (inl memory) = inl memory
+qcow2_cause permitted f e is (inr fault) = inr (inl (Format.Qcow2, is, inr fault))
 
-pub below_cause : (accepted : Accepted) (f : File) (d : Layer) (e : Error) → IsLayerOf accepted d f → IsBelowRefused d f.bytes e → IsCause accepted f e
-below_cause accepted f (Of.Raw r) e of h = absurd h
-below_cause accepted f (Of.Vmdk v) e of h = absurd h
-below_cause accepted f (Of.Cow c) e of h = absurd h
-below_cause accepted f (Of.Qcow2 q) e of h = qcow2_cause accepted f e of.0 (h of.1.0 of.1.1)
+pub below_cause : (permitted : Permitted) (f : File) (d : Layer) (e : Error) → IsLayerOf permitted d f → IsBelowRefused d f.bytes e → IsCause permitted f e
+below_cause permitted f (Of.Raw r) e of h = absurd h
+below_cause permitted f (Of.Vmdk v) e of h = absurd h
+below_cause permitted f (Of.Cow c) e of h = absurd h
+below_cause permitted f (Of.Qcow2 q) e of h = qcow2_cause permitted f e of.0 (h of.1.0 of.1.1)
 
 -- the first file has no others above it
-pub first_cause : (accepted : Accepted) (k : ℕ) (f : File) (e : Error) → k ≡ 0 → IsLayerRefusal accepted k f e → IsCause accepted f e
-first_cause accepted k f e none (inl cause) = cause
-first_cause accepted k f e none (inr many) = absurd (let z : ⊥ = omega (arith, none, many.0) in z)
+pub first_cause : (permitted : Permitted) (k : ℕ) (f : File) (e : Error) → k ≡ 0 → IsLayerRefusal permitted k f e → IsCause permitted f e
+first_cause permitted k f e none (inl cause) = cause
+first_cause permitted k f e none (inr many) = absurd (let z : ⊥ = omega (arith, none, many.0) in z)

@@ -8,7 +8,7 @@ use Rattle.std.proofs.Math.Nat.{div-div-eq-div-mul, mul-pos, mod-lt}
 use Rattle.imago_drivers.specs.Place.{Value, Lower, Special, shown}
 use Rattle.imago_access.specs.declared.access.FormatAccess.{FormatAccess, out-FormatAccess, is-FormatAccess', back-FormatAccess-backing}
 use Rattle.imago_access.specs.Chain.{driver, backing, unboxed}
-use Rattle.imago_vmdk.specs.declared.line.Accepted.{Accepted}
+use Rattle.imago_session.specs.declared.permitted.Permitted.{Permitted}
 use Rattle.imago_qcow2.specs.declared.entry.L2Table.{L2Table}
 use Rattle.imago_qcow2.specs.declared.entry.L2Table.TheVariants as T
 use Rattle.imago_qcow2.specs.declared.entry.GuestCluster.{GuestCluster}
@@ -103,22 +103,22 @@ module _ (a b : List ℕ) (same : HaveSameTables a b) where
       ∙ ap (place_by (packed_value true by a c) a (p % c + i) (p + i)) cluster
 
 -- a layer, and those below it
-module _ (accepted : Accepted) where
+module _ (permitted : Permitted) where
   -- an image by its driver and what is below
-  parts_of : (files : ℕ → File) (x : FormatAccess Layer) → AreLayersOf accepted files x
-      → IsLayerOf accepted (driver x) (files 0)
-      × AreBelow accepted (λ (k : ℕ). files (suc k)) (driver x) (files 0).bytes (back-FormatAccess-backing Layer (out-FormatAccess Layer x).backing)
-  parts_of files x h = subst (λ (y : FormatAccess Layer). AreLayersOf accepted files y) (is-FormatAccess' x) h
+  parts_of : (files : ℕ → File) (x : FormatAccess Layer) → AreLayersOf permitted files x
+      → IsLayerOf permitted (driver x) (files 0)
+      × AreBelow permitted (λ (k : ℕ). files (suc k)) (driver x) (files 0).bytes (back-FormatAccess-backing Layer (out-FormatAccess Layer x).backing)
+  parts_of files x h = subst (λ (y : FormatAccess Layer). AreLayersOf permitted files y) (is-FormatAccess' x) h
 
-  pub own_layer : (files : ℕ → File) (x : FormatAccess Layer) → AreLayersOf accepted files x → IsLayerOf accepted (driver x) (files 0)
+  pub own_layer : (files : ℕ → File) (x : FormatAccess Layer) → AreLayersOf permitted files x → IsLayerOf permitted (driver x) (files 0)
   own_layer files x h = (parts_of files x h).0
 
   below_of : (files : ℕ → File) (d : Layer) (bytes : List ℕ) (y : FormatAccess Layer) (b : Option (Box (FormatAccess Layer) Global)) → unboxed b ≡ Some y
-      → AreBelow accepted files d bytes (back-FormatAccess-backing Layer b) → AreLayersOf accepted files y
+      → AreBelow permitted files d bytes (back-FormatAccess-backing Layer b) → AreLayersOf permitted files y
   below_of files d bytes y None e h = let q : ⊥ = cc e in absurd q
-  below_of files d bytes y (Some z) e h = let q : z.value ≡ y = cc e in subst (λ (v : FormatAccess Layer). AreLayersOf accepted files v) q h.1
+  below_of files d bytes y (Some z) e h = let q : z.value ≡ y = cc e in subst (λ (v : FormatAccess Layer). AreLayersOf permitted files v) q h.1
 
-  pub next_layers : (files : ℕ → File) (x y : FormatAccess Layer) → backing x ≡ Some y → AreLayersOf accepted files x → AreLayersOf accepted (λ (k : ℕ). files (suc k)) y
+  pub next_layers : (files : ℕ → File) (x y : FormatAccess Layer) → backing x ≡ Some y → AreLayersOf permitted files x → AreLayersOf permitted (λ (k : ℕ). files (suc k)) y
   next_layers files x y on h =
       below_of (λ (k : ℕ). files (suc k)) (driver x) (files 0).bytes y (out-FormatAccess Layer x).backing on (parts_of files x h).1
 
@@ -160,12 +160,12 @@ some_all None P Q R S h k l f = tt
 some_all (Some x) P Q R S h k l f = f x h k l
 
 -- a part of a compressed cluster shows what its stream puts out
-pub shows_stream : (accepted : Accepted) (files : ℕ → File) (x : FormatAccess Layer) (c : Compressed) (by : Compression) (k : GuestCluster) (at file : ℕ) (length skip left : ℕ)
+pub shows_stream : (permitted : Permitted) (files : ℕ → File) (x : FormatAccess Layer) (c : Compressed) (by : Compression) (k : GuestCluster) (at file : ℕ) (length skip left : ℕ)
     → (c.at ≡ at) × (c.count ≡ left) × (c.file ≡ file) × (c.cluster ≡ length) × (c.skip ≡ skip)
     → k ≡ GuestCluster.Compressed c.offset c.length → by ≡ Compression.Deflate
     → ((i : ℕ) → i < left → described_by (driver x) (λ (n : ℕ). (files (file + n)).bytes) (at + i) ≡ place_by (packed_value true by (files (file + 0)).bytes length) (files (file + 0)).bytes (skip + i) (at + i) k)
     → (i : ℕ) → i < c.count → described_value (λ (n : ℕ). files (file + n)) x (c.at + i) ≡ cluster_value files c (c.skip + i)
-shows_stream accepted files x c by k at file length skip left is stream deflate place i near =
+shows_stream permitted files x c by k at file length skip left is stream deflate place i near =
     let e : file + 0 ≡ c.file = omega (arith, is.2) in
     let low : i < left = omega (arith, near, is.1) in
     ap (λ (a : ℕ). described_value (λ (n : ℕ). files (file + n)) x (a + i)) is.0

@@ -1,6 +1,6 @@
 -- qcow2 files of which the tables are in memory.
 -- SPDX-License-Identifier: MIT
-use Rattle.std.proofs.Common.{◌≡◌, ℕ, ◌+◌, ◌*◌, ◌/◌, ◌^◌, ◌<◌, ◌≤◌, ⊎_elim, List, length, min, sym, ap, subst, ◌∙◌, arith}
+use Rattle.std.proofs.Common.{◌≡◌, ℕ, zero, suc, refl, ◌+◌, ◌*◌, ◌/◌, ◌^◌, ◌<◌, ◌≤◌, ⊎_elim, List, length, min, sym, ap, subst, ◌∙◌, arith}
 use Rattle.std.specs.Prelude.{slice_index}
 use Rattle.std.specs.Int.{div_ceil}
 use Rattle.std.proofs.lemmas.Bool.{cases_lt}
@@ -8,7 +8,9 @@ use Rattle.std.proofs.lemmas.List.{get_or_past}
 use Rattle.imago_storage.specs.Bytes.{IsReadAt, bytes_at}
 use Rattle.imago_qcow2.specs.declared.entry.L2Table.{L2Table}
 use Rattle.imago_qcow2.specs.Numbers.{be64}
-use Rattle.imago_qcow2.specs.Entry.{disk_size, cluster_length, per_table, l1_start, l1_entry, table_in_entry}
+use Rattle.imago_qcow2.specs.Entry.{disk_size, cluster_length, per_table, l1_start, l1_entry, table_in_entry, table_of}
+use Rattle.imago_qcow2.specs.Tables.{says_entry}
+use Rattle.imago_qcow2.specs.Limit.{with_table, table_offsets, tables_length, file_offsets, file_tables, l1_length}
 use Rattle.imago_qcow2.specs.Opening.{table_count}
 use Rattle.imago_qcow2.specs.Disk.{HaveSameTables}
 use Rattle.imago_qcow2.proofs.NumberSteps.{read64}
@@ -64,6 +66,31 @@ module _ (file head entries : List ℕ) (f : LoadedFile) (start count cluster si
   own_entry i h =
       read64 file entries start is_read (8 * i) (let e = entries_len in omega (arith, e, h))
       ∙ ap (λ (n : ℕ). be64 file (n + 8 * i)) own_start
+
+  -- what the L1 entries that were read say is what the file's do
+  own_says : (i : ℕ) → i < count → says_entry file cluster entries i ≡ table_of file i
+  own_says i h =
+      ap (table_in_entry (length file) cluster) (own_entry i h)
+      ∙ ap (λ (n : ℕ). table_in_entry (length file) n (l1_entry file i)) own_cluster
+
+  own_offsets : (n : ℕ) → n ≤ count → table_offsets file cluster entries n ≡ file_offsets file n
+  unfolding table_offsets file_offsets
+  own_offsets zero h = refl
+  own_offsets (suc n) h =
+      ap (λ (says : L2Table). with_table says (table_offsets file cluster entries n)) (own_says n (omega (arith, h)))
+      ∙ ap (with_table (table_of file n)) (own_offsets n (omega (arith, h)))
+
+  -- how many bytes the tables have, by what was read
+  pub own_tables : tables_length file cluster entries count ≡ file_tables file
+  unfolding file_tables
+  own_tables =
+      ap (λ (os : List ℕ). 8 * count + cluster * length os) (own_offsets count (omega arith))
+      ∙ ap (λ (n : ℕ). 8 * n + cluster * length (file_offsets file n)) own_count
+      ∙ ap (λ (c : ℕ). 8 * table_count file + c * length (file_offsets file (table_count file))) own_cluster
+
+  -- how many bytes the L1 table has, by the header that was read
+  pub own_l1 : l1_length head ≡ l1_length file
+  own_l1 = ap (λ (n : ℕ). 8 * n) (same32 file head same 36 (omega arith))
 
   pub loads_tables : HasBytesOf file f → f.length ≡ size → 0 < f.block → 112 ≤ cluster → AreThere f 0 (min cluster f.length) → AreThere f start (8 * count)
       → AreLoaded entries cluster size count f → HaveSameTables file (loaded_bytes f)

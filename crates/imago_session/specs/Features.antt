@@ -1,3 +1,4 @@
+-- What a file of which some blocks are in memory can do as a storage.
 -- SPDX-License-Identifier: MIT
 use Rattle.std.specs.Prelude.{true, false, refl}
 use Rattle.imago_storage.specs.Features.{Features, AsData, AreLawful}

@@ -11,7 +11,7 @@ use Rattle.imago_drivers.specs.declared.format.Format.{Format}
 use Rattle.imago_formats.specs.declared.signature.Signature.{Signature}
 use Rattle.imago_formats.specs.declared.signature.Signature.TheVariants as As
 use Rattle.imago_formats.specs.Signatures.{signature_of}
-use Rattle.imago_vmdk.specs.declared.line.Accepted.{Accepted}
+use Rattle.imago_session.specs.declared.permitted.Permitted.{Permitted}
 use Rattle.imago_vmdk.specs.declared.line.Extent.{Extent}
 use Rattle.imago_vmdk.specs.Disk.{described_place}
 use Rattle.imago_vmdk.specs.Image.{descriptor_in, is_opened, accepted_in}
@@ -30,6 +30,7 @@ use Rattle.imago_session.specs.contracts.loaded.LoadedFileStorage.TheImpl as sto
 use Rattle.imago_session.specs.contracts.loaded.LoadedFileDisplay.TheImpl as display
 use Rattle.imago_session.specs.declared.loaded.LoadedFile.{LoadedFile}
 use Rattle.imago_session.specs.Loaded.{loaded_bytes}
+use Rattle.imago_session.specs.Limits.{HasFewTables}
 
 -- A file as the caller has it: its bytes, and the format that the caller says it has, if it says
 -- one.
@@ -73,19 +74,21 @@ described_by (Of.Cow c) bytes p = End
 described_by (Of.Qcow2 q) bytes p = qcow2_place (bytes 0) p
 
 -- A layer is open over what is needed of a file in its format: its length, the text of a
--- descriptor, of which so much is accepted, or the tables of a qcow2 file and its first cluster.
-abbrev pub IsOver : Accepted → Layer → List ℕ → Type 0
-IsOver accepted (Of.Raw r) bytes = size_of r ≡ length bytes
-IsOver accepted (Of.Vmdk v) bytes =
-    (accepted_in v ≡ accepted) × (is_opened v ≡ true) × (bytes ≡ loaded_bytes (descriptor_in v))
-IsOver accepted (Of.Cow c) bytes = ⊥
-IsOver accepted (Of.Qcow2 q) bytes =
+-- descriptor, of which so much is accepted, or the tables of a qcow2 file, of which there are no
+-- more than is permitted, and its first cluster.
+abbrev pub IsOver : Permitted → Layer → List ℕ → Type 0
+IsOver permitted (Of.Raw r) bytes = size_of r ≡ length bytes
+IsOver permitted (Of.Vmdk v) bytes =
+    (accepted_in v ≡ permitted.accepted) × (is_opened v ≡ true) × (bytes ≡ loaded_bytes (descriptor_in v))
+IsOver permitted (Of.Cow c) bytes = ⊥
+IsOver permitted (Of.Qcow2 q) bytes =
     HaveSameTables bytes (loaded_bytes (storage_in q))
     × AreSameBytes bytes (loaded_bytes (storage_in q)) 0 (cluster_length bytes)
+    × HasFewTables permitted.tables bytes
 
 -- a layer is that of a file, in the file's format
-abbrev pub IsLayerOf : Accepted → Layer → File → Type 0
-IsLayerOf accepted d f = IsFormatOf f (format_in d) × IsOver accepted d f.bytes
+abbrev pub IsLayerOf : Permitted → Layer → File → Type 0
+IsLayerOf permitted d f = IsFormatOf f (format_in d) × IsOver permitted d f.bytes
 
 -- a qcow2 file names a file below it: a name without bytes is none
 abbrev pub HasBacking : List ℕ → Type 0
@@ -113,23 +116,23 @@ IsLowest (Of.Cow c) bytes = Unit {0}
 IsLowest (Of.Qcow2 q) bytes = HasNoBacking bytes
 
 -- layers that are each that of a file, the top one first, and each have a file below
-abbrev pub AreAbove : Accepted → (ℕ → File) → List Layer → Type 0
-AreAbove accepted files [] = Unit {0}
-AreAbove accepted files (d ∷ ds) =
-    IsLayerOf accepted d (files 0) × GoesDown d (files 0).bytes
-    × AreAbove accepted (λ (k : ℕ). files (suc k)) ds
+abbrev pub AreAbove : Permitted → (ℕ → File) → List Layer → Type 0
+AreAbove permitted files [] = Unit {0}
+AreAbove permitted files (d ∷ ds) =
+    IsLayerOf permitted d (files 0) × GoesDown d (files 0).bytes
+    × AreAbove permitted (λ (k : ℕ). files (suc k)) ds
 
 abbrev mutual
   -- An image has a layer for each file, the top one first, down to one that names none below.
-  pub AreLayersOf : Accepted → (ℕ → File) → FormatAccess Layer → Type 0
-  AreLayersOf accepted files (FormatAccess' inner below) =
-      IsLayerOf accepted inner (files 0)
-      × AreBelow accepted (λ (k : ℕ). files (suc k)) inner (files 0).bytes below
+  pub AreLayersOf : Permitted → (ℕ → File) → FormatAccess Layer → Type 0
+  AreLayersOf permitted files (FormatAccess' inner below) =
+      IsLayerOf permitted inner (files 0)
+      × AreBelow permitted (λ (k : ℕ). files (suc k)) inner (files 0).bytes below
 
-  pub AreBelow : Accepted → (ℕ → File) → Layer → List ℕ → Held-FormatAccess-backing Layer → Type 0
-  AreBelow accepted files inner bytes None' = IsLowest inner bytes
-  AreBelow accepted files inner bytes (Some' k x) =
-      GoesDown inner bytes × AreLayersOf accepted files x
+  pub AreBelow : Permitted → (ℕ → File) → Layer → List ℕ → Held-FormatAccess-backing Layer → Type 0
+  AreBelow permitted files inner bytes None' = IsLowest inner bytes
+  AreBelow permitted files inner bytes (Some' k x) =
+      GoesDown inner bytes × AreLayersOf permitted files x
 
 abbrev mutual
   -- What a read of each offset gives of the disk that the files of an image say, whatever these

@@ -2,7 +2,7 @@
 -- SPDX-License-Identifier: MIT
 use Rattle.std.specs.Prelude.{◌≡◌, ℕ, ◌-◌, ◌*◌, List, map, min}
 use Rattle.std.specs.String.{string_bytes}
-use Rattle.imago_vmdk.specs.declared.line.Accepted.{Accepted}
+use Rattle.imago_session.specs.declared.permitted.Permitted.{Permitted}
 use Rattle.imago_storage.specs.Bytes.{bytes_at}
 use Rattle.imago_session.specs.declared.loaded.LoadedFile.{LoadedFile}
 use Rattle.imago_session.specs.Loaded.{file_length, block_length, Loads}
@@ -14,14 +14,16 @@ use Rattle.imago_session.specs.Known.{AreKnownOf}
 use Rattle.imago_session.specs.Files.{File, IsLayerOf, extent_names}
 
 -- what is in memory is of that file, which is opened as its caller says
-abbrev pub IsLoadingOf : File → Loading → Type 0
-IsLoadingOf f l = IsPartOf f.bytes l.file × (f.format ≡ l.format) × AreKnownOf f.bytes l.file l.tables
+abbrev pub IsLoadingOf : Permitted → File → Loading → Type 0
+IsLoadingOf permitted f l =
+    IsPartOf f.bytes l.file × (f.format ≡ l.format)
+    × AreKnownOf permitted.tables f.bytes l.file l.tables
 
 -- what was found is of that file
-abbrev pub IsFoundOf : Accepted → File → Found → Type 0
-IsFoundOf accepted f (F.Loading l) = IsLoadingOf f l
-IsFoundOf accepted f (F.Layer d names) =
-    IsLayerOf accepted d f × (map string_bytes names.items ≡ extent_names d f.bytes)
+abbrev pub IsFoundOf : Permitted → File → Found → Type 0
+IsFoundOf permitted f (F.Loading l) = IsLoadingOf permitted f l
+IsFoundOf permitted f (F.Layer d names) =
+    IsLayerOf permitted d f × (map string_bytes names.items ≡ extent_names d f.bytes)
 
 -- where the block that a file asks for begins in the file, and how many bytes it has there
 abbrev pub block_start : Loading → ℕ

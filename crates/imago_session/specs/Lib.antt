@@ -2,6 +2,7 @@
 pub mod Features
 pub mod Loaded
 pub mod Tables
+pub mod Limits
 pub mod Steps
 pub mod Blocks
 pub mod Known

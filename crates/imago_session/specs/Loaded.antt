@@ -1,3 +1,4 @@
+-- A file of which some blocks are in memory: its bytes, and which blocks those are.
 -- SPDX-License-Identifier: MIT
 use Rattle.std.specs.Prelude.{◌≡◌, ℕ, ◌+◌, ◌*◌, ◌%◌, ◌/◌, ◌<◌, ◌≤◌, List, map, slice_index}
 use Rattle.std.specs.Prelude.{Option, Some, None, IsSome}

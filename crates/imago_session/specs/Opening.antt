@@ -1,16 +1,17 @@
 -- How far the opening of an image is, and what it asks for.
 -- SPDX-License-Identifier: MIT
-use Rattle.std.specs.Prelude.{◌≡◌, ℕ, ◌+◌, ◌-◌, ◌<◌, List, [], length, map}
+use Rattle.std.specs.Prelude.{◌≡◌, ℕ, ◌+◌, ◌-◌, ◌^◌, ◌<◌, ◌≤◌, ◌⊎◌, List, [], length, map}
 use Rattle.std.specs.Prelude.{Option, slice_index, slice_index_or}
 use Rattle.std.specs.String.{string_bytes}
 use Rattle.imago_drivers.specs.Place.{Byte}
 use Rattle.imago_drivers.specs.declared.format.Format.{Format}
-use Rattle.imago_vmdk.specs.declared.line.Accepted.{Accepted}
+use Rattle.imago_session.specs.declared.permitted.Permitted.{Permitted}
 use Rattle.imago_plan.specs.declared.piece.Piece.{Piece}
 use Rattle.imago_plan.specs.declared.piece.Source.{Source}
 use Rattle.imago_plan.specs.declared.piece.Source.TheVariants as From
 use Rattle.imago_storage.specs.Bytes.{bytes_at}
 use Rattle.imago_access.specs.declared.access.FormatAccess.{FormatAccess}
+use Rattle.imago_session.specs.declared.extents.Extents.{Extents}
 use Rattle.imago_session.specs.declared.session.State.{State}
 use Rattle.imago_session.specs.declared.session.State.TheVariants as S
 use Rattle.imago_session.specs.declared.session.Session.{Session}
@@ -27,21 +28,21 @@ use Rattle.imago_session.specs.Found.{IsLoadingOf, block_start, block_count}
 -- How far an opening is, of these files, with so many layers above: what is in memory of a file is
 -- its own, a name that is told is that of the layer above, and the layers of an image are those of
 -- the files.
-abbrev pub IsStateOf : Accepted → (ℕ → File) → ℕ → State → Type 0
-IsStateOf accepted files k (S.Loading l) = IsLoadingOf (files k) l
-IsStateOf accepted files k (S.Below named) =
+abbrev pub IsStateOf : Permitted → (ℕ → File) → ℕ → State → Type 0
+IsStateOf permitted files k (S.Loading l) = IsLoadingOf permitted (files k) l
+IsStateOf permitted files k (S.Below named) =
     named.name.items ≡ backing_name (files (k - 1)).bytes
-IsStateOf accepted files k (S.Extents p) =
-    AreLayersOf accepted files p.image
+IsStateOf permitted files k (S.Extents p) =
+    AreLayersOf permitted files p.image
     × (map string_bytes p.names.items ≡ names_in files p.image) × (p.first ≡ layers_in p.image)
-IsStateOf accepted files k (S.Open image) = AreLayersOf accepted files image
-IsStateOf accepted files k S.Refused = Unit {0}
+IsStateOf permitted files k (S.Open image) = AreLayersOf permitted files image
+IsStateOf permitted files k S.Refused = Unit {0}
 
 -- All that a session was given is of these files, the top one first.
 abbrev pub IsOf : (ℕ → File) → Session → Type 0
 IsOf files s =
-    AreAbove s.accepted files s.above.items
-    × IsStateOf s.accepted files (length s.above.items) s.state
+    AreAbove s.permitted files s.above.items
+    × IsStateOf s.permitted files (length s.above.items) s.state
 
 -- the image is open, and is one that this holds of
 abbrev pub IsOpenWith : State → (FormatAccess Layer → Type 0) → Type 0
@@ -50,6 +51,14 @@ IsOpenWith (S.Below named) P = ⊥
 IsOpenWith (S.Extents p) P = ⊥
 IsOpenWith (S.Open image) P = P image
 IsOpenWith S.Refused P = ⊥
+
+-- this holds of the image, if it is open
+abbrev pub IfOpen : State → (FormatAccess Layer → Type 0) → Type 0
+IfOpen (S.Loading l) P = Unit {0}
+IfOpen (S.Below named) P = Unit {0}
+IfOpen (S.Extents p) P = Unit {0}
+IfOpen (S.Open image) P = P image
+IfOpen S.Refused P = Unit {0}
 
 -- What is asked for: a block of the file that is loaded, as far as the file has it; or the next
 -- file. Files are numbered in the order in which they are asked for, the top one by 0.
@@ -117,6 +126,34 @@ IsBroughtOn (S.Extents p) new = ⊥
 IsBroughtOn (S.Open image) new = ⊥
 IsBroughtOn S.Refused new = ⊥
 
+-- Which file of an extent is asked for once the lowest layer is open: the first one, or none where
+-- that layer names none.
+abbrev pub IsAtFirst : (ℕ → File) → State → Type 0
+IsAtFirst files (S.Loading l) = Unit {0}
+IsAtFirst files (S.Below named) = Unit {0}
+IsAtFirst files (S.Extents p) = p.next ≡ 0
+IsAtFirst files (S.Open image) = names_in files image ≡ []
+IsAtFirst files S.Refused = Unit {0}
+
+-- The file of the next extent of the same image is asked for, or the image is open behind the last
+-- one, or where files have no greater numbers.
+abbrev pub IsAtNext : Extents → State → Type 0
+IsAtNext p (S.Loading l) = ⊥
+IsAtNext p (S.Below named) = ⊥
+IsAtNext p (S.Extents q) =
+    (q.next ≡ p.next + 1) × (q.image ≡ p.image) × (q.names ≡ p.names) × (q.first ≡ p.first)
+IsAtNext p (S.Open image) =
+    ((length p.names.items ≤ p.next + 1) ⊎ (2 ^ 64 ≤ p.first + (p.next + 1))) × (image ≡ p.image)
+IsAtNext p S.Refused = ⊥
+
+-- what was given leads on to the extents, one after the other
+abbrev pub IsLedOn : (ℕ → File) → State → State → Type 0
+IsLedOn files (S.Loading l) new = IsAtFirst files new
+IsLedOn files (S.Below named) new = IsAtFirst files new
+IsLedOn files (S.Extents p) new = IsAtNext p new
+IsLedOn files (S.Open image) new = Unit {0}
+IsLedOn files S.Refused new = Unit {0}
+
 -- a file was opened, so the next one is asked for, or the image is open
 abbrev pub IsBehind : State → Type 0
 IsBehind (S.Loading l) = ⊥
@@ -161,6 +198,14 @@ AsksNoBytes (W.Backing k) = Unit {0}
 AsksNoBytes (W.Extent k) = Unit {0}
 AsksNoBytes W.Nothing = Unit {0}
 AsksNoBytes W.Refused = Unit {0}
+
+-- a file is asked for
+abbrev pub AsksFile : Want → Type 0
+AsksFile (W.Bytes k from count) = ⊥
+AsksFile (W.Backing k) = Unit {0}
+AsksFile (W.Extent k) = Unit {0}
+AsksFile W.Nothing = ⊥
+AsksFile W.Refused = ⊥
 
 -- no file is asked for
 abbrev pub AsksNoFile : Want → Type 0

@@ -6,12 +6,12 @@ use Rattle.imago_storage.specs.declared.error.Error.{Error}
 use Rattle.imago_drivers.specs.declared.format.Format.{Format}
 use Rattle.imago_drivers.specs.declared.format.Format.TheVariants as Of
 use Rattle.imago_formats.specs.Signatures.{signature_of}
-use Rattle.imago_vmdk.specs.declared.line.Accepted.{Accepted}
+use Rattle.imago_session.specs.declared.permitted.Permitted.{Permitted}
 use Rattle.imago_vmdk.specs.declared.line.Extent.{Extent}
 use Rattle.imago_vmdk.specs.Reading.{reading_of}
 use Rattle.imago_qcow2.specs.Backing.{format_of}
-use Rattle.imago_qcow2.specs.Header.{header_of}
 use Rattle.imago_session.specs.declared.session.Session.{Session}
+use Rattle.imago_session.specs.Limits.{IsTableFault}
 use Rattle.imago_session.specs.Files.{File, IsFormatOf, HasBacking, format_told}
 
 -- an extent begins in its file at an offset that doesn't fit 64 bits
@@ -35,20 +35,20 @@ abbrev pub HasFaultyFormat : List ℕ → Error → Type 0
 HasFaultyFormat bytes e = HasBacking bytes × (format_of bytes ≡ Err e)
 
 -- The fault of a file of that format: any bytes are a raw image's; a descriptor's lines are at
--- fault, or one of its extents begins too far behind; a qcow2 file's header is, or what it says of
--- the file below. Files of copy-on-write disks aren't opened.
-abbrev pub IsFault : Accepted → List ℕ → Format → Error → Type 0
-IsFault accepted bytes Of.Raw e = ⊥
-IsFault accepted bytes Of.Vmdk e =
-    (reading_of accepted bytes ≡ Err e)
-    ⊎ (ReadsFar (reading_of accepted bytes) × (e ≡ Error.InvalidData))
-IsFault accepted bytes Of.Cow e = e ≡ Error.Unsupported
-IsFault accepted bytes Of.Qcow2 e =
-    (header_of bytes (length bytes) ≡ Err e) ⊎ HasFaultyFormat bytes e
+-- fault, or one of its extents begins too far behind; a qcow2 file's header is, or its tables are
+-- too many, or what it says of the file below is wrong. Files of copy-on-write disks aren't opened.
+abbrev pub IsFault : Permitted → List ℕ → Format → Error → Type 0
+IsFault permitted bytes Of.Raw e = ⊥
+IsFault permitted bytes Of.Vmdk e =
+    (reading_of permitted.accepted bytes ≡ Err e)
+    ⊎ (ReadsFar (reading_of permitted.accepted bytes) × (e ≡ Error.InvalidData))
+IsFault permitted bytes Of.Cow e = e ≡ Error.Unsupported
+IsFault permitted bytes Of.Qcow2 e =
+    IsTableFault permitted.tables bytes e ⊎ HasFaultyFormat bytes e
 
 -- the same, or no memory
-abbrev pub IsFaultOrMemory : Accepted → List ℕ → Format → Error → Type 0
-IsFaultOrMemory accepted bytes format e = (e ≡ Error.Memory) ⊎ IsFault accepted bytes format e
+abbrev pub IsFaultOrMemory : Permitted → List ℕ → Format → Error → Type 0
+IsFaultOrMemory permitted bytes format e = (e ≡ Error.Memory) ⊎ IsFault permitted bytes format e
 
 -- A file of which no format is said is recognised as what isn't opened, such as an image of another
 -- format or an archive.
@@ -61,10 +61,10 @@ abbrev pub IsForeignOrMemory : Option Format → List ℕ → Error → Type 0
 IsForeignOrMemory said bytes e = (e ≡ Error.Memory) ⊎ IsForeign said bytes e
 
 -- why a file isn't opened: no memory, its fault in its own format, or that it has none of them
-abbrev pub IsCause : Accepted → File → Error → Type 0
-IsCause accepted f e =
+abbrev pub IsCause : Permitted → File → Error → Type 0
+IsCause permitted f e =
     (e ≡ Error.Memory)
-    ⊎ (((format : Format) × IsFormatOf f format × IsFault accepted f.bytes format e)
+    ⊎ (((format : Format) × IsFormatOf f format × IsFault permitted f.bytes format e)
     ⊎ IsForeign f.format f.bytes e)
 
 -- the most layers that an image has
@@ -72,11 +72,11 @@ abbrev pub most_layers : ℕ
 most_layers = 200
 
 -- why it isn't taken as the layer below so many others: there are as many as an image may have, too
-abbrev pub IsLayerRefusal : Accepted → ℕ → File → Error → Type 0
-IsLayerRefusal accepted k f e =
-    IsCause accepted f e ⊎ ((most_layers ≤ k) × (e ≡ Error.Unsupported))
+abbrev pub IsLayerRefusal : Permitted → ℕ → File → Error → Type 0
+IsLayerRefusal permitted k f e =
+    IsCause permitted f e ⊎ ((most_layers ≤ k) × (e ≡ Error.Unsupported))
 
 -- why what a session asks for isn't taken, of these files
 abbrev pub IsRefusalOf : (ℕ → File) → Session → Error → Type 0
 IsRefusalOf files s e =
-    IsLayerRefusal s.accepted (length s.above.items) (files (length s.above.items)) e
+    IsLayerRefusal s.permitted (length s.above.items) (files (length s.above.items)) e

@@ -1,3 +1,4 @@
+-- Which L2 tables of a qcow2 file are in memory.
 -- SPDX-License-Identifier: MIT
 use Rattle.std.specs.Prelude.{◌≡◌, ℕ, ◌*◌, ◌<◌, List}
 use Rattle.imago_qcow2.specs.declared.entry.L2Table.{L2Table}

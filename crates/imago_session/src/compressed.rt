@@ -1,7 +1,7 @@
 // SPDX-License-Identifier: MIT
 //! Compressed clusters: where their streams stand.
 ghost use Rattle.std.specs.Prelude.{◌≡◌, ℕ, ◌+◌, ◌^◌, ◌<◌, ◌≤◌, ◌%◌, List, true, IfSome};
-ghost use Rattle.imago_vmdk.specs.declared.line.Accepted.{Accepted};
+ghost use Rattle.imago_session.specs.declared.permitted.Permitted.{Permitted};
 ghost use Rattle.imago_qcow2.specs.declared.entry.GuestCluster.{GuestCluster};
 ghost use Rattle.imago_qcow2.specs.declared.header.Compression.{Compression};
 ghost use Rattle.imago_qcow2.specs.Compressed.{packed_value};
@@ -84,8 +84,8 @@ fn part_of_qcow2(qcow2: &Qcow2<LoadedFile>, at: u64) -> Option<Part>
 
 /// What a layer says of an offset of its disk. Only qcow2 images have guest clusters.
 fn part_at(layer: &Layer, at: u64) -> Option<Part>
-    ensures places { IfSome result (λ r. (accepted : Accepted) (bytes : ℕ → List ℕ) (i : ℕ)
-        → IsOver accepted layer.now (bytes 0) → i < r.left
+    ensures places { IfSome result (λ r. (permitted : Permitted) (bytes : ℕ → List ℕ) (i : ℕ)
+        → IsOver permitted layer.now (bytes 0) → i < r.left
         → described_by layer.now bytes («at» + i) ≡ place_by
         (packed_value true r.compression (bytes 0) r.length) (bytes 0) (r.skip + i) («at» + i)
         r.cluster) }
@@ -127,8 +127,8 @@ fn stream_of(part: Part, at: u64, count: u64, file: usize) -> Option<Compressed>
 pub(crate) fn compressed_at(image: &FormatAccess<Layer>, at: u64, most: u64) -> Option<Compressed>
     requires { 0 < most }
     ensures part { IfSome result (IsPartOfCluster «at» most) }
-    ensures shows { IfSome result (λ c. (accepted : Accepted) (files : ℕ → File)
-        → AreLayersOf accepted files image.now → ShowsStream files c image.now) }
+    ensures shows { IfSome result (λ c. (permitted : Permitted) (files : ℕ → File)
+        → AreLayersOf permitted files image.now → ShowsStream files c image.now) }
 {
     let mut layer = image;
     let mut file: usize = 0;

@@ -1,6 +1,7 @@
 // SPDX-License-Identifier: MIT
 //! Images of which the files of the extents are asked for.
-ghost use Rattle.std.specs.Prelude.{◌≡◌, ◌+◌, ◌^◌, ◌≤◌, ◌<◌, ◌⊎◌, None, IfSome, [], map};
+ghost use Rattle.std.specs.Prelude.{◌≡◌, ◌+◌, ◌^◌, ◌≤◌, ◌<◌, ◌⊎◌, None, IfSome, IsSome, [], map};
+ghost use Rattle.std.specs.Prelude.{length};
 ghost use Rattle.std.specs.Prelude.{slice_index_or};
 ghost use Rattle.std.specs.String.{string_bytes};
 
@@ -17,6 +18,7 @@ pub(crate) struct Extents {
     /// The index of the name that is asked for.
     pub(crate) next: usize,
     ghost fits: { first + next < 2 ^ 64 },
+    ghost inside: { next < length names.items },
 }
 
 impl Extents {
@@ -29,8 +31,9 @@ impl Extents {
 
     /// The name that is asked for.
     pub(crate) fn name(&self) -> Option<&[u8]>
-        ensures { IfSome result (λ name. name.now
+        ensures name { IfSome result (λ name. name.now
             ≡ slice_index_or (map string_bytes self.now.names.items) self.now.next []) }
+        ensures some { IsSome result }
     {
         match self.names.get(self.next) {
             Some(name) => Some(name.as_bytes()),

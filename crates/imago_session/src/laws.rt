@@ -2,7 +2,7 @@
 //! Laws of layers that are open over a part of their files. The functions do nothing; their
 //! contracts are proved.
 ghost use Rattle.std.specs.Prelude.{◌≡◌, ℕ};
-ghost use Rattle.imago_vmdk.specs.declared.line.Accepted.{Accepted};
+ghost use Rattle.imago_session.specs.declared.permitted.Permitted.{Permitted};
 ghost use Rattle.imago_access.specs.Target.{target};
 ghost use Rattle.imago_access.specs.Chain.{driver};
 ghost use Rattle.imago_plan.specs.declared.piece.Piece.{Piece};
@@ -19,8 +19,8 @@ use imago_qcow2::laws::same_tables_stand_alike;
 /// its bytes is that of the disk which the files say, whatever they hold besides.
 pub fn pieces_of_files(image: &FormatAccess<Layer>)
     ensures { let view = ⟦<Layer as FormatDriverInstance>⟧.view in
-        (accepted : Accepted) (files : ℕ → File) (at : ℕ) (piece : Piece)
-        → AreLayersOf accepted files image.now → IsPieceAt (target view image.now) at piece
+        (permitted : Permitted) (files : ℕ → File) (at : ℕ) (piece : Piece)
+        → AreLayersOf permitted files image.now → IsPieceAt (target view image.now) at piece
         → ShowsBytes files at piece image.now }
 {
     same_tables_stand_alike();
@@ -30,7 +30,7 @@ pub fn pieces_of_files(image: &FormatAccess<Layer>)
 /// The size of its disk is the one that the top file says.
 pub fn size_of_files(image: &FormatAccess<Layer>)
     ensures { let view = ⟦<Layer as FormatDriverInstance>⟧.view in
-        (accepted : Accepted) (files : ℕ → File) → AreLayersOf accepted files image.now
+        (permitted : Permitted) (files : ℕ → File) → AreLayersOf permitted files image.now
         → (view (driver image.now)).size ≡ described_size files image.now }
 {
     let _ = image;

@@ -14,6 +14,7 @@ ghost use Rattle.imago_formats.specs.Signatures.{first_block, last_block};
 ghost use Rattle.imago_session.specs.Loaded.{file_length};
 ghost use Rattle.imago_session.specs.Blocks.{IsMissing, IsPartOf};
 ghost use Rattle.imago_session.specs.Known.{AreKnownOf};
+ghost use Rattle.imago_session.specs.declared.permitted.Permitted.{Permitted};
 ghost use Rattle.imago_session.specs.Files.{File, IsFormatBy, file_name, format_told};
 ghost use Rattle.imago_session.specs.Found.{IsFoundOf, IsLoadingOf, IsBlockGiven};
 ghost use Rattle.imago_session.specs.Found.{block_start, block_count, IsFoundIn, IsFurther};
@@ -24,6 +25,7 @@ ghost use Rattle.imago_session.specs.Steps.{IfMissing, IfReady};
 use crate::block::{BLOCK, Step, first_missing, part};
 use crate::loaded::{LoadedFile, WholeBlocks};
 use crate::loading::{Loading, Tables};
+use crate::permitted::Permitted;
 use crate::tables::{next_missing, tables_of};
 use imago_any_driver::any::AnyDriver;
 use imago_drivers::builder::FormatDriverBuilder;
@@ -268,17 +270,17 @@ fn push_name(alloc: Global, names: &mut Vec<String>, extent: &Extent<String>) ->
 /// What is made of a descriptor's file.
 fn load_vmdk(
     alloc: Global,
-    accepted: Accepted,
+    permitted: Permitted,
     file: LoadedFile,
     format: Option<Format>,
     tables: Option<Tables>,
 ) -> Result<Found, Error>
     ensures agrees { IfOk result (λ r. (f : File) → IsPartOf f.bytes file
-        → AreKnownOf f.bytes file tables → f.format ≡ format → IsFormatBy format f.bytes Format.Vmdk
-        → IsFoundOf accepted f r) }
+        → AreKnownOf permitted.tables f.bytes file tables → f.format ≡ format → IsFormatBy format f.bytes Format.Vmdk
+        → IsFoundOf permitted f r) }
     ensures same { IfOk result (IsFoundIn file) }
     ensures refused { IfErr result (λ e. (bytes : List ℕ) → IsPartOf bytes file
-        → IsFaultOrMemory accepted bytes Format.Vmdk e) }
+        → IsFaultOrMemory permitted bytes Format.Vmdk e) }
 {
     let length = file.length();
     if length > LONGEST_DESCRIPTOR {
@@ -293,31 +295,31 @@ fn load_vmdk(
         }));
     }
     let text = part(alloc, &file, 0, length)?;
-    let read = descriptor::read(alloc, accepted, &text)?;
+    let read = descriptor::read(alloc, permitted.accepted, &text)?;
     if has_far(&read.extents) {
         return Err(Error::InvalidData);
     }
     let names = names_of(alloc, &read.extents)?;
-    let image = open_vmdk(alloc, accepted, file)?;
+    let image = open_vmdk(alloc, permitted.accepted, file)?;
     Ok(Found::Layer(AnyDriver::Vmdk(image), names))
 }
 
 /// What is made of a qcow2 file.
 fn load_qcow2(
     alloc: Global,
-    accepted: Accepted,
+    permitted: Permitted,
     file: LoadedFile,
     format: Option<Format>,
     known: Option<Tables>,
 ) -> Result<Found, Error>
     ensures agrees { IfOk result (λ r. (f : File) → IsPartOf f.bytes file
-        → AreKnownOf f.bytes file known → f.format ≡ format → IsFormatBy format f.bytes Format.Qcow2
-        → IsFoundOf accepted f r) }
+        → AreKnownOf permitted.tables f.bytes file known → f.format ≡ format → IsFormatBy format f.bytes Format.Qcow2
+        → IsFoundOf permitted f r) }
     ensures same { IfOk result (IsFoundIn file) }
     ensures refused { IfErr result (λ e. (bytes : List ℕ) → IsPartOf bytes file
-        → AreKnownOf bytes file known → IsFaultOrMemory accepted bytes Format.Qcow2 e) }
+        → AreKnownOf permitted.tables bytes file known → IsFaultOrMemory permitted bytes Format.Qcow2 e) }
 {
-    let mut tables = match tables_of(alloc, &file, known)? {
+    let mut tables = match tables_of(alloc, &file, known, permitted.tables)? {
         Step::Missing(number) => {
             return Ok(Found::Loading(Loading {
                 file,
@@ -343,13 +345,13 @@ fn load_qcow2(
 }
 
 /// What is made of a raw file. Refused, it is [`Error::Memory`].
-fn load_raw(alloc: Global, accepted: Accepted, file: LoadedFile) -> Result<Found, Error>
+fn load_raw(alloc: Global, permitted: Permitted, file: LoadedFile) -> Result<Found, Error>
     ensures agrees { IfOk result (λ r. (f : File) → IsPartOf f.bytes file
-        → IsFormatBy f.format f.bytes Format.Raw → IsFoundOf accepted f r) }
+        → IsFormatBy f.format f.bytes Format.Raw → IsFoundOf permitted f r) }
     ensures same { IfOk result (IsFoundIn file) }
     ensures memory { IfErr result (λ e. e ≡ Error.Memory) }
 {
-    let _ = accepted;
+    let _ = permitted;
     let image = Raw::open_image(file, false)?;
     Ok(Found::Layer(AnyDriver::Raw(image), Vec::new(alloc)))
 }
@@ -357,23 +359,23 @@ fn load_raw(alloc: Global, accepted: Accepted, file: LoadedFile) -> Result<Found
 /// What is made of a file in that format.
 fn load_as(
     alloc: Global,
-    accepted: Accepted,
+    permitted: Permitted,
     file: LoadedFile,
     format: Option<Format>,
     tables: Option<Tables>,
     taken: Format,
 ) -> Result<Found, Error>
     ensures agrees { IfOk result (λ r. (f : File) → IsPartOf f.bytes file
-        → AreKnownOf f.bytes file tables → f.format ≡ format → IsFormatBy format f.bytes taken
-        → IsFoundOf accepted f r) }
+        → AreKnownOf permitted.tables f.bytes file tables → f.format ≡ format → IsFormatBy format f.bytes taken
+        → IsFoundOf permitted f r) }
     ensures same { IfOk result (IsFoundIn file) }
     ensures refused { IfErr result (λ e. (bytes : List ℕ) → IsPartOf bytes file
-        → AreKnownOf bytes file tables → IsFaultOrMemory accepted bytes taken e) }
+        → AreKnownOf permitted.tables bytes file tables → IsFaultOrMemory permitted bytes taken e) }
 {
     match taken {
-        Format::Raw => load_raw(alloc, accepted, file),
-        Format::Vmdk => load_vmdk(alloc, accepted, file, format, tables),
-        Format::Qcow2 => load_qcow2(alloc, accepted, file, format, tables),
+        Format::Raw => load_raw(alloc, permitted, file),
+        Format::Vmdk => load_vmdk(alloc, permitted, file, format, tables),
+        Format::Qcow2 => load_qcow2(alloc, permitted, file, format, tables),
         Format::Cow => Err(Error::Unsupported),
     }
 }
@@ -381,16 +383,16 @@ fn load_as(
 /// What is made of a file of which some blocks are in memory.
 fn load(
     alloc: Global,
-    accepted: Accepted,
+    permitted: Permitted,
     file: LoadedFile,
     format: Option<Format>,
     tables: Option<Tables>,
 ) -> Result<Found, Error>
     ensures agrees { IfOk result (λ r. (f : File) → IsPartOf f.bytes file
-        → AreKnownOf f.bytes file tables → f.format ≡ format → IsFoundOf accepted f r) }
+        → AreKnownOf permitted.tables f.bytes file tables → f.format ≡ format → IsFoundOf permitted f r) }
     ensures same { IfOk result (IsFoundIn file) }
     ensures refused { IfErr result (λ e. (f : File) → IsPartOf f.bytes file
-        → AreKnownOf f.bytes file tables → f.format ≡ format → IsCause accepted f e) }
+        → AreKnownOf permitted.tables f.bytes file tables → f.format ≡ format → IsCause permitted f e) }
 {
     match format_of(alloc, &file, format)? {
         Step::Missing(number) => Ok(Found::Loading(Loading {
@@ -399,25 +401,25 @@ fn load(
             tables,
             number,
         })),
-        Step::Ready(taken) => load_as(alloc, accepted, file, format, tables, taken),
+        Step::Ready(taken) => load_as(alloc, permitted, file, format, tables, taken),
     }
 }
 
 /// What is made of a file of that many bytes, of which nothing is in memory.
 pub(crate) fn begin(
     alloc: Global,
-    accepted: Accepted,
+    permitted: Permitted,
     count: u64,
     format: Option<Format>,
 ) -> Result<Found, Error>
     ensures agrees { IfOk result (λ r. (f : File) → length f.bytes ≡ count → f.format ≡ format
-        → IsFoundOf accepted f r) }
+        → IsFoundOf permitted f r) }
     ensures refused { IfErr result (λ e. (f : File) → length f.bytes ≡ count → f.format ≡ format
-        → IsCause accepted f e) }
+        → IsCause permitted f e) }
 {
     load(
         alloc,
-        accepted,
+        permitted,
         LoadedFile::new(alloc, count, BLOCK),
         format,
         None,
@@ -427,15 +429,15 @@ pub(crate) fn begin(
 /// What is made of a file with the block that it was asked for.
 pub(crate) fn resume(
     alloc: Global,
-    accepted: Accepted,
+    permitted: Permitted,
     loading: Loading,
     block: Vec<u8>,
 ) -> Result<Found, Error>
-    ensures agrees { IfOk result (λ r. (f : File) → IsLoadingOf f loading
-        → IsBlockGiven f.bytes loading block.items → IsFoundOf accepted f r) }
+    ensures agrees { IfOk result (λ r. (f : File) → IsLoadingOf permitted f loading
+        → IsBlockGiven f.bytes loading block.items → IsFoundOf permitted f r) }
     ensures further { IfOk result (IsFurther loading) }
-    ensures refused { IfErr result (λ e. (f : File) → IsLoadingOf f loading
-        → IsBlockGiven f.bytes loading block.items → IsCause accepted f e) }
+    ensures refused { IfErr result (λ e. (f : File) → IsLoadingOf permitted f loading
+        → IsBlockGiven f.bytes loading block.items → IsCause permitted f e) }
 {
     let Loading {
         mut file,
@@ -444,5 +446,5 @@ pub(crate) fn resume(
         number,
     } = loading;
     file.put_block(number, block)?;
-    load(alloc, accepted, file, format, tables)
+    load(alloc, permitted, file, format, tables)
 }

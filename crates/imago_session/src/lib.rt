@@ -3,7 +3,8 @@
 //! gives them.
 //!
 //! [`session`] opens an image so, and says where each byte of its disk stands. [`loaded`] is a file
-//! of which some blocks are in memory, as a storage. [`laws`] are laws of the layers that it opens.
+//! of which some blocks are in memory, as a storage. [`permitted`] is what an image may contain.
+//! [`laws`] are laws of the layers that it opens.
 #![tactic(auto)]
 
 mod block;
@@ -13,5 +14,6 @@ pub mod laws;
 mod layer;
 pub mod loaded;
 mod loading;
+pub mod permitted;
 pub mod session;
 mod tables;

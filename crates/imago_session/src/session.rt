@@ -1,25 +1,29 @@
 // SPDX-License-Identifier: MIT
 //! An image that is opened by asking for bytes.
 ghost use Rattle.std.specs.Prelude.{◌≡◌, ◌+◌, ◌^◌, ◌≤◌, ◌<◌, ◌⊎◌, ℕ, List, [], length, Some, None};
-ghost use Rattle.std.specs.Prelude.{IfOk, OnOk, IsOk, IfErr, OnErr, Err, IfSome, MatchOption, map};
+ghost use Rattle.std.specs.Prelude.{IfOk, OnOk, IsOk, IfErr, OnErr, Err, IfSome, IsSome};
+ghost use Rattle.std.specs.Prelude.{MatchOption, map};
 ghost use Rattle.std.specs.Prelude.{slice_index_or};
 ghost use Rattle.std.specs.String.{string_bytes};
-ghost use Rattle.imago_vmdk.specs.declared.line.Accepted.{Accepted};
+ghost use Rattle.imago_session.specs.declared.permitted.Permitted.{Permitted};
 ghost use Rattle.imago_qcow2.specs.Backing.{IsBackingName};
 ghost use Rattle.imago_qcow2.specs.Disk.{HaveSameTables, AreSameBytes};
 ghost use Rattle.imago_qcow2.specs.Entry.{cluster_length};
 ghost use Rattle.imago_qcow2.specs.Qcow2Image.{storage_in};
 ghost use Rattle.imago_access.specs.Target.{target};
+ghost use Rattle.imago_plan.specs.Pieces.{IsNoPiece};
 ghost use Rattle.imago_session.specs.Loaded.{loaded_bytes};
 ghost use Rattle.imago_session.specs.Files.{File, IsLayerOf, GoesDown, IsLowest, AreAbove};
 ghost use Rattle.imago_session.specs.Files.{AreLayersOf, backing_name, described_size};
 ghost use Rattle.imago_session.specs.Files.{HasBacking, HasNoBacking, extent_names, names_in};
 ghost use Rattle.imago_session.specs.Files.{layers_in};
+ghost use Rattle.imago_session.specs.Limits.{usual};
 ghost use Rattle.imago_session.specs.Found.{IsFoundOf};
 ghost use Rattle.imago_session.specs.Opening.{IsStateOf, IsOf, IsOpenWith, wanted, wanted_in};
 ghost use Rattle.imago_session.specs.Opening.{IsAnswer, IsFileAnswer, IsNameWanted};
 ghost use Rattle.imago_session.specs.Mapping.{IsMappedAt, ShowsMapped};
 ghost use Rattle.imago_session.specs.Opening.{IsBehind, IsStateWith, IsBroughtOn, AsksOnce};
+ghost use Rattle.imago_session.specs.Opening.{IsAtFirst, IsAtNext, IsLedOn, IfOpen, AsksFile};
 ghost use Rattle.imago_session.specs.Opening.{AsksNoBytes, AsksOtherCount, AsksCount, AsksNoFile};
 ghost use Rattle.imago_session.specs.Refusals.{HasFaultyFormat, IsCause, IsLayerRefusal};
 ghost use Rattle.imago_session.specs.Refusals.{IsRefusalOf};
@@ -33,6 +37,7 @@ pub use crate::layer::Layer;
 use crate::layer::{Found, begin, resume};
 use crate::loaded::LoadedFile;
 use crate::loading::Loading;
+use crate::permitted::Permitted;
 use imago_access::access::FormatAccess;
 use imago_any_driver::any::AnyDriver;
 use imago_drivers::drivers::{Format, FormatDriverInstance};
@@ -91,8 +96,8 @@ pub enum Want {
 #[derive(Drop)]
 pub struct Session {
     alloc: Global,
-    /// What a descriptor may contain.
-    accepted: Accepted,
+    /// What its files may contain.
+    permitted: Permitted,
     /// The layers that are above the file which is loaded, the top one first.
     above: Vec<Layer>,
     state: State,
@@ -101,9 +106,9 @@ pub struct Session {
 /// The layers over the lowest one. Refused, it is [`Error::Memory`].
 fn chain(alloc: Global, above: &mut Vec<Layer>, lowest: Layer) -> Result<FormatAccess<Layer>, Error>
     ensures layers { let k = length above.old.items in
-        IfOk result (λ x. (accepted : Accepted) (files : ℕ → File)
-        → AreAbove accepted files above.old.items → IsLayerOf accepted lowest (files k)
-        → IsLowest lowest (files k).bytes → AreLayersOf accepted files x) }
+        IfOk result (λ x. (permitted : Permitted) (files : ℕ → File)
+        → AreAbove permitted files above.old.items → IsLayerOf permitted lowest (files k)
+        → IsLowest lowest (files k).bytes → AreLayersOf permitted files x) }
     ensures names { let k = length above.old.items in
         IfOk result (λ x. (files : ℕ → File)
         → names_in files x ≡ extent_names lowest (files k).bytes) }
@@ -158,12 +163,12 @@ fn below_qcow2(alloc: Global, qcow2: &Qcow2<LoadedFile>) -> Result<Option<Named>
 
 /// What a layer says of the file below it, if there is one.
 fn below_of(alloc: Global, layer: &Layer) -> Result<Option<Named>, Error>
-    ensures named { IfOk result (λ b. (accepted : Accepted) (f : File)
-        → IsLayerOf accepted layer.now f
+    ensures named { IfOk result (λ b. (permitted : Permitted) (f : File)
+        → IsLayerOf permitted layer.now f
         → MatchOption b (IsLowest layer.now f.bytes)
         (λ named. GoesDown layer.now f.bytes × (named.name.items ≡ backing_name f.bytes))) }
-    ensures refused { IfErr result (λ e. (accepted : Accepted) (f : File)
-        → IsLayerOf accepted layer.now f → IsCause accepted f e) }
+    ensures refused { IfErr result (λ e. (permitted : Permitted) (f : File)
+        → IsLayerOf permitted layer.now f → IsCause permitted f e) }
 {
     match layer {
         AnyDriver::Qcow2(qcow2) => below_qcow2(alloc, qcow2),
@@ -175,10 +180,12 @@ fn below_of(alloc: Global, layer: &Layer) -> Result<Option<Named>, Error>
 /// whose first one has that number.
 fn with_extents(image: FormatAccess<Layer>, names: Vec<String>, first: usize) -> State
     requires { first ≤ 200 }
-    ensures agrees { (accepted : Accepted) (files : ℕ → File) (k : ℕ)
-        → AreLayersOf accepted files image → map string_bytes names.items ≡ names_in files image
-        → first ≡ layers_in image → IsStateOf accepted files k result }
+    ensures agrees { (permitted : Permitted) (files : ℕ → File) (k : ℕ)
+        → AreLayersOf permitted files image → map string_bytes names.items ≡ names_in files image
+        → first ≡ layers_in image → IsStateOf permitted files k result }
     ensures behind { IsBehind result }
+    ensures first { (files : ℕ → File) → map string_bytes names.items ≡ names_in files image
+        → IsAtFirst files result }
 {
     if names.is_empty() {
         return State::Open(image);
@@ -199,15 +206,18 @@ fn with_layer(
     names: Vec<String>,
 ) -> Result<State, Error>
     ensures agrees { let k = length above.old.items in
-        IfOk result (λ s. (accepted : Accepted) (files : ℕ → File)
-        → AreAbove accepted files above.old.items → IsLayerOf accepted layer (files k)
+        IfOk result (λ s. (permitted : Permitted) (files : ℕ → File)
+        → AreAbove permitted files above.old.items → IsLayerOf permitted layer (files k)
         → map string_bytes names.items ≡ extent_names layer (files k).bytes
-        → AreAbove accepted files above.new.items
-        × IsStateOf accepted files (length above.new.items) s) }
+        → AreAbove permitted files above.new.items
+        × IsStateOf permitted files (length above.new.items) s) }
     ensures behind { IfOk result IsBehind }
+    ensures first { let k = length above.old.items in IfOk result (λ s. (files : ℕ → File)
+        → map string_bytes names.items ≡ extent_names layer (files k).bytes
+        → IsAtFirst files s) }
     ensures refused { let k = length above.old.items in
-        IfErr result (λ e. (accepted : Accepted) (f : File) → IsLayerOf accepted layer f
-        → IsLayerRefusal accepted k f e) }
+        IfErr result (λ e. (permitted : Permitted) (f : File) → IsLayerOf permitted layer f
+        → IsLayerRefusal permitted k f e) }
 {
     let number = above.len();
     if number >= MOST_LAYERS {
@@ -228,14 +238,17 @@ fn with_layer(
 /// How far the opening is with what was made of a file.
 fn with_found(alloc: Global, above: &mut Vec<Layer>, found: Found) -> Result<State, Error>
     ensures agrees { let k = length above.old.items in
-        IfOk result (λ s. (accepted : Accepted) (files : ℕ → File)
-        → AreAbove accepted files above.old.items → IsFoundOf accepted (files k) found
-        → AreAbove accepted files above.new.items
-        × IsStateOf accepted files (length above.new.items) s) }
+        IfOk result (λ s. (permitted : Permitted) (files : ℕ → File)
+        → AreAbove permitted files above.old.items → IsFoundOf permitted (files k) found
+        → AreAbove permitted files above.new.items
+        × IsStateOf permitted files (length above.new.items) s) }
     ensures state { IfOk result (IsStateWith found) }
+    ensures first { let k = length above.old.items in
+        IfOk result (λ s. (permitted : Permitted) (files : ℕ → File)
+        → IsFoundOf permitted (files k) found → IsAtFirst files s) }
     ensures refused { let k = length above.old.items in
-        IfErr result (λ e. (accepted : Accepted) (f : File) → IsFoundOf accepted f found
-        → IsLayerRefusal accepted k f e) }
+        IfErr result (λ e. (permitted : Permitted) (f : File) → IsFoundOf permitted f found
+        → IsLayerRefusal permitted k f e) }
 {
     match found {
         Found::Loading(loading) => Ok(State::Loading(loading)),
@@ -245,8 +258,9 @@ fn with_found(alloc: Global, above: &mut Vec<Layer>, found: Found) -> Result<Sta
 
 /// How far the opening is once the file of an extent is there.
 fn after_extent(extents: Extents) -> State
-    ensures { (accepted : Accepted) (files : ℕ → File) (k : ℕ)
-        → IsStateOf accepted files k (State.Extents extents) → IsStateOf accepted files k result }
+    ensures agrees { (permitted : Permitted) (files : ℕ → File) (k : ℕ)
+        → IsStateOf permitted files k (State.Extents extents) → IsStateOf permitted files k result }
+    ensures next { IsAtNext extents result }
 {
     let Extents {
         image,
@@ -279,8 +293,10 @@ fn mapped_at(image: &FormatAccess<Layer>, at: u64, most: u64) -> Result<Mapped, 
     requires { 0 < most }
     ensures at { let view = ⟦<Layer as FormatDriverInstance>⟧.view in
         IfOk result (IsMappedAt (target view image.now) «at» most) }
-    ensures shows { IfOk result (λ m. (accepted : Accepted) (files : ℕ → File)
-        → AreLayersOf accepted files image.now → ShowsMapped files «at» m image.now) }
+    ensures shows { IfOk result (λ m. (permitted : Permitted) (files : ℕ → File)
+        → AreLayersOf permitted files image.now → ShowsMapped files «at» m image.now) }
+    ensures refused { let view = ⟦<Layer as FormatDriverInstance>⟧.view in
+        IfErr result (IsNoPiece view image.now «at» most) }
 {
     pieces_of_files(image);
     match next_piece(image, at, most) {
@@ -294,11 +310,8 @@ fn mapped_at(image: &FormatAccess<Layer>, at: u64, most: u64) -> Result<Mapped, 
 }
 
 impl Session {
-    /// Begins with the top file, which has that many bytes. It is opened in that format, or, if
-    /// none is said, in the one that its bytes are recognised as: that of a qcow2 image, of a VMDK
-    /// descriptor that begins with `# Disk DescriptorFile`, or of a raw disk where they are
-    /// recognised as nothing. Descriptors may contain what is accepted. What it is refused for is
-    /// told by [`give`](Self::give).
+    /// Begins with the top file, as [`within`](Self::within) does where so much is accepted of a
+    /// descriptor, and tables have at most 256 MiB ([`Permitted::usual`]).
     pub fn new(
         alloc: Global,
         accepted: Accepted,
@@ -306,17 +319,37 @@ impl Session {
         format: Option<Format>,
     ) -> Result<Session, Error>
         ensures agrees { IfOk result (λ s. (files : ℕ → File) → length (files 0).bytes ≡ count
-            → (files 0).format ≡ format → IsOf files s) }
-        ensures accepted { IfOk result (λ s. s.accepted ≡ «accepted») }
+            → (files 0).format ≡ format → IsOf files s × IsAtFirst files s.state) }
+        ensures permitted { IfOk result (λ s. s.permitted ≡ usual accepted) }
         ensures refused { IfErr result (λ e. (f : File) → length f.bytes ≡ count
-            → f.format ≡ format → IsCause accepted f e) }
+            → f.format ≡ format → IsCause (usual accepted) f e) }
+    {
+        Session::within(alloc, Permitted::usual(accepted), count, format)
+    }
+
+    /// Begins with the top file, which has that many bytes. It is opened in that format, or, if
+    /// none is said, in the one that its bytes are recognised as: that of a qcow2 image, of a VMDK
+    /// descriptor that begins with `# Disk DescriptorFile`, or of a raw disk where they are
+    /// recognised as nothing. Descriptors may contain what is permitted, and qcow2 files have
+    /// tables of as many bytes. What it is refused for is told by [`give`](Self::give).
+    pub fn within(
+        alloc: Global,
+        permitted: Permitted,
+        count: u64,
+        format: Option<Format>,
+    ) -> Result<Session, Error>
+        ensures agrees { IfOk result (λ s. (files : ℕ → File) → length (files 0).bytes ≡ count
+            → (files 0).format ≡ format → IsOf files s × IsAtFirst files s.state) }
+        ensures permitted { IfOk result (λ s. s.permitted ≡ «permitted») }
+        ensures refused { IfErr result (λ e. (f : File) → length f.bytes ≡ count
+            → f.format ≡ format → IsCause permitted f e) }
     {
         let mut above = Vec::new(alloc);
-        let found = begin(alloc, accepted, count, format)?;
+        let found = begin(alloc, permitted, count, format)?;
         let state = with_found(alloc, &mut above, found)?;
         Ok(Session {
             alloc,
-            accepted,
+            permitted,
             above,
             state,
         })
@@ -351,12 +384,14 @@ impl Session {
     /// has for a fault in its format, by its driver: of its header or of its descriptor. With
     /// [`Error::InvalidData`], an extent may also begin at an offset that doesn't fit 64 bits, or
     /// the name of the format of the file below pass the first cluster. [`Error::Unsupported`] is
-    /// also a file of which no format is said, and that is recognised as what isn't opened, and the
-    /// layer behind [`MOST_LAYERS`]. [`Error::Memory`] is no memory.
+    /// also a file of which no format is said, and that is recognised as what isn't opened; a qcow2
+    /// file whose L1 table has more than 32 MiB, or whose tables have more bytes than is permitted,
+    /// of which no L2 table is asked for; and the layer behind [`MOST_LAYERS`]. [`Error::Memory`]
+    /// is no memory.
     pub fn give(&mut self, bytes: &[u8]) -> Result<(), Error>
         ensures agrees { OnOk result ((files : ℕ → File)
             → IsAnswer files (wanted self.old) bytes.now → IsOf files self.old
-            → IsOf files self.new) }
+            → IsOf files self.new × IsLedOn files self.old.state self.new.state) }
         ensures further { OnOk result (IsBroughtOn self.old.state self.new.state) }
         ensures unasked { AsksNoBytes (wanted self.old)
             → (result ≡ Err Error.Unsupported) × (self.new ≡ self.old) }
@@ -381,7 +416,7 @@ impl Session {
     fn take_block(&mut self, bytes: &[u8]) -> Result<(), Error>
         ensures agrees { OnOk result ((files : ℕ → File)
             → IsAnswer files (wanted self.old) bytes.now → IsOf files self.old
-            → IsOf files self.new) }
+            → IsOf files self.new × IsLedOn files self.old.state self.new.state) }
         ensures further { OnOk result (IsBroughtOn self.old.state self.new.state) }
         ensures refused { IfErr result (λ e. (self.new.state ≡ State.Refused)
             ⊎ ((e ≡ Error.Memory) × (self.new ≡ self.old))) }
@@ -393,7 +428,7 @@ impl Session {
         let State::Loading(loading) = mem::replace(&mut self.state, State::Refused) else {
             return Err(Error::Unsupported);
         };
-        let found = resume(self.alloc, self.accepted, loading, block)?;
+        let found = resume(self.alloc, self.permitted, loading, block)?;
         self.state = with_found(self.alloc, &mut self.above, found)?;
         Ok(())
     }
@@ -408,7 +443,7 @@ impl Session {
     pub fn give_file(&mut self, count: u64, format: Option<Format>) -> Result<(), Error>
         ensures agrees { OnOk result ((files : ℕ → File)
             → IsFileAnswer files (wanted self.old) count format → IsOf files self.old
-            → IsOf files self.new) }
+            → IsOf files self.new × IsLedOn files self.old.state self.new.state) }
         ensures unasked { AsksNoFile (wanted self.old)
             → (result ≡ Err Error.Unsupported) × (self.new ≡ self.old) }
         ensures extent { (k : ℕ) → wanted self.old ≡ Want.Extent k → IsOk result }
@@ -420,7 +455,7 @@ impl Session {
     {
         match mem::replace(&mut self.state, State::Refused) {
             State::Below(_) => {
-                let found = begin(self.alloc, self.accepted, count, format)?;
+                let found = begin(self.alloc, self.permitted, count, format)?;
                 self.state = with_found(self.alloc, &mut self.above, found)?;
                 Ok(())
             }
@@ -437,8 +472,9 @@ impl Session {
 
     /// The name of the file that is asked for, as the image has it, if one is.
     pub fn name(&self) -> Option<&[u8]>
-        ensures { IfSome result (λ name. (files : ℕ → File) → IsOf files self.now
+        ensures name { IfSome result (λ name. (files : ℕ → File) → IsOf files self.now
             → IsNameWanted files self.now name.now) }
+        ensures some { AsksFile (wanted self.now) → IsSome result }
     {
         match &self.state {
             State::Below(named) => Some(&named.name),
@@ -462,8 +498,9 @@ impl Session {
 
     /// The size of the disk in bytes, if the image is open.
     pub fn size(&self) -> Option<u64>
-        ensures { IfSome result (λ n. IsOpenWith self.now.state (λ x. (files : ℕ → File)
+        ensures size { IfSome result (λ n. IsOpenWith self.now.state (λ x. (files : ℕ → File)
             → IsOf files self.now → n ≡ described_size files x)) }
+        ensures some { IfOpen self.now.state (λ x. IsSome result) }
     {
         match &self.state {
             State::Open(image) => {
@@ -482,9 +519,11 @@ impl Session {
     /// [`Error::InvalidData`] one whose entry is invalid.
     pub fn map(&self, at: u64, most: u64) -> Result<Mapped, Error>
         requires { 0 < most }
-        ensures { let view = ⟦<Layer as FormatDriverInstance>⟧.view in
+        ensures mapped { let view = ⟦<Layer as FormatDriverInstance>⟧.view in
             IfOk result (λ m. IsOpenWith self.now.state (λ x. IsMappedAt (target view x) «at» most m
             × ((files : ℕ → File) → IsOf files self.now → ShowsMapped files «at» m x))) }
+        ensures refused { let view = ⟦<Layer as FormatDriverInstance>⟧.view in
+            IfErr result (λ e. IfOpen self.now.state (λ x. IsNoPiece view x «at» most e)) }
     {
         match &self.state {
             State::Open(image) => mapped_at(image, at, most),

@@ -22,15 +22,15 @@ loop-part-preserved c =
     record {
       some = let some = c.in_ok-part.ensures.some in omega (arith, m, some, l.invariant.some);
       within = omega (arith, m, l.invariant.within);
-      layers = λ accepted files are.
-          subst (λ (f : ℕ → File). AreLayersOf accepted f y) (λ i k. files (far k i)) (next_layers accepted (λ k. files (l.file + k)) x y on (l.invariant.layers accepted files are));
-      shows = λ accepted files are i near.
+      layers = λ permitted files are.
+          subst (λ (f : ℕ → File). AreLayersOf permitted f y) (λ i k. files (far k i)) (next_layers permitted (λ k. files (l.file + k)) x y on (l.invariant.layers permitted files are));
+      shows = λ permitted files are i near.
           let b : ℕ → List ℕ = λ k. (files (l.file + k)).bytes in
-          let over : IsOver accepted c.inner.result.now (b 0) = subst (λ (d : Layer). IsOver accepted d (b 0)) (sym c.inner.ensures) (own_layer accepted (λ k. files (l.file + k)) x (l.invariant.layers accepted files are)).1 in
-          l.invariant.shows accepted files are i (omega (arith, near, m))
+          let over : IsOver permitted c.inner.result.now (b 0) = subst (λ (d : Layer). IsOver permitted d (b 0)) (sym c.inner.ensures) (own_layer permitted (λ k. files (l.file + k)) x (l.invariant.layers permitted files are)).1 in
+          l.invariant.shows permitted files are i (omega (arith, near, m))
           ∙ leads_on (λ k. files (l.file + k)) x y (at + i) on
           (ap (λ (d : Layer). described_by d b (at + i)) (sym c.inner.ensures)
-          ∙ c.in_ok-part.ensures.places accepted b i over (omega (arith, near, m))
+          ∙ c.in_ok-part.ensures.places permitted b i over (omega (arith, near, m))
           ∙ ap (place_by (packed_value true p.compression (b 0) p.length) (b 0) (p.skip + i) (at + i)) c.in-Absent.is)
           ∙ (λ j. described_value (λ k. files (far k j)) y (at + i));
     }
@@ -43,14 +43,14 @@ returns-in_default-clause-shows c =
     let at = c.args.at in
     let m = c.min-left.ensures in
     some_all c.stream_of.result _ _ _ _ c.stream_of.ensures.told c.stream_of.ensures.stream c.stream_of.ensures.deflated
-    (λ r is stream deflate accepted files are i near.
+    (λ r is stream deflate permitted files are i near.
     let b : ℕ → List ℕ = λ k. (files (l.file + k)).bytes in
-    let over : IsOver accepted c.inner.result.now (b 0) = subst (λ (d : Layer). IsOver accepted d (b 0)) (sym c.inner.ensures) (own_layer accepted (λ k. files (l.file + k)) x (l.invariant.layers accepted files are)).1 in
+    let over : IsOver permitted c.inner.result.now (b 0) = subst (λ (d : Layer). IsOver permitted d (b 0)) (sym c.inner.ensures) (own_layer permitted (λ k. files (l.file + k)) x (l.invariant.layers permitted files are)).1 in
     ap (λ (a : ℕ). described_value files c.args.image.now (a + i)) is.0
-    ∙ l.invariant.shows accepted files are i (omega (arith, near, is.1, m))
+    ∙ l.invariant.shows permitted files are i (omega (arith, near, is.1, m))
     ∙ ap (λ (a : ℕ). described_value (λ k. files (l.file + k)) x (a + i)) (sym is.0)
-    ∙ shows_stream accepted files x r p.compression p.cluster at l.file p.length p.skip c.min-left.result is stream deflate
-    (λ j lt. ap (λ (d : Layer). described_by d b (at + j)) (sym c.inner.ensures) ∙ c.in_ok-part.ensures.places accepted b j over (omega (arith, lt, m)))
+    ∙ shows_stream permitted files x r p.compression p.cluster at l.file p.length p.skip c.min-left.result is stream deflate
+    (λ j lt. ap (λ (d : Layer). described_by d b (at + j)) (sym c.inner.ensures) ∙ c.in_ok-part.ensures.places permitted b j over (omega (arith, lt, m)))
     i near)
 
 pub returns-in_default-clause-part : goal.returns-in_default-clause-part

@@ -1,6 +1,6 @@
 -- SPDX-License-Identifier: MIT
 use Rattle.std.proofs.Common.{◌≡◌, ℕ, ◌+◌, ◌<◌, ◌≤◌}
-use Rattle.imago_vmdk.specs.declared.line.Accepted.{Accepted}
+use Rattle.imago_session.specs.declared.permitted.Permitted.{Permitted}
 use Rattle.imago_session.specs.Files.{File, AreLayersOf, described_value, layers_in}
 use Rattle.imago_session.proofs.compressed.compressed_at.Given as goal
 
@@ -8,9 +8,9 @@ abbrev pub invariant-loop-part : goal.invariant-loop-part
 invariant-loop-part l = record {
   some : 0 < l.left;
   within : l.left ≤ l.fn.most;
-  layers : (accepted : Accepted) (files : ℕ → File) → AreLayersOf accepted files l.fn.image
-      → AreLayersOf accepted (λ (k : ℕ). files (l.file + k)) l.layer;
-  shows : (accepted : Accepted) (files : ℕ → File) → AreLayersOf accepted files l.fn.image
+  layers : (permitted : Permitted) (files : ℕ → File) → AreLayersOf permitted files l.fn.image
+      → AreLayersOf permitted (λ (k : ℕ). files (l.file + k)) l.layer;
+  shows : (permitted : Permitted) (files : ℕ → File) → AreLayersOf permitted files l.fn.image
       → (i : ℕ) → i < l.left → described_value files l.fn.image (l.fn.at + i) ≡ described_value (λ (k : ℕ). files (l.file + k)) l.layer (l.fn.at + i);
 }
 

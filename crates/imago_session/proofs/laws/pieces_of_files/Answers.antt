@@ -6,9 +6,9 @@ use Rattle.imago_session.proofs.LayerSteps.{view_of, layers_show, stands_no_spec
 use Rattle.imago_session.proofs.laws.pieces_of_files.Goals as goal
 
 pub returns : goal.returns
-returns c = λ accepted files at piece layers is i lt.
+returns c = λ permitted files at piece layers is i lt.
     let image = c.args.image.now in
     let t = target view_of image (at + i) in
-    sym (layers_show c.same_tables_stand_alike.ensures.places accepted (λ k s. (files (k + s)).bytes) files (λ k s. refl) image layers (at + i) (stands_no_special piece.source i t (is.2 i lt)))
+    sym (layers_show c.same_tables_stand_alike.ensures.places permitted (λ k s. (files (k + s)).bytes) files (λ k s. refl) image layers (at + i) (stands_no_special piece.source i t (is.2 i lt)))
     ∙ stands_shown (λ k s. (files (k + s)).bytes) piece.source i t (is.2 i lt)
     ∙ source_is files piece.source i

@@ -29,29 +29,36 @@ returns-in_err-image-clause-refused c =
     let p = err_from_is_err_and c.from_residual-in_err-image.result c.from_residual-in_err-image.ensures.1 in
     let file = c.args.file in
     let t = c.in-Ready.tables in
-    let ready = subst (λ (s : Step Tables). IfReady (λ (x : Tables). (bytes : List ℕ) → IsPartOf bytes file → AreKnownOf bytes file c.args.known → AreTablesOf bytes file x) s) c.in-Ready.is c.in_ok-number.ensures.ready in
+    let ready = subst (λ (s : Step Tables). IfReady (λ (x : Tables). (bytes : List ℕ) → IsPartOf bytes file → AreKnownOf c.args.permitted.tables bytes file c.args.known → AreTablesOf c.args.permitted.tables bytes file x) s) c.in-Ready.is c.in_ok-number.ensures.ready in
     let long = loaded_length file in
     rw (p.1, p.2) (λ bytes part known.
-    let of : AreTablesOf bytes file t = ready bytes part known in
-    let same : HaveSameTables bytes (loaded_bytes file) = c.next_missing.ensures.tables c.in_default.is bytes part of in
+    let of : AreTablesOf c.args.permitted.tables bytes file t = ready bytes part known in
+    let same : HaveSameTables bytes (loaded_bytes file) = c.next_missing.ensures.tables c.in_default.is c.args.permitted.tables bytes part of in
     ⊎_elim
     (λ memory. inl memory)
-    (λ fault. inr (inl (sym (c.same_tables_stand_alike.ensures.header bytes (loaded_bytes file) same) ∙ fault)))
+    (λ fault. inr (inl (inl (sym (c.same_tables_stand_alike.ensures.header bytes (loaded_bytes file) same) ∙ fault))))
     (qcow2_refused (loaded_bytes file) (omega (arith, long, c.length-length.ensures, c.length-length.type_inv)) c.in_err-image.field-0.0 c.in_err-image.ensures.refused))
+
+pub returns-in-Some-clause-agrees : goal.returns-in-Some-clause-agrees
+returns-in-Some-clause-agrees c = λ f part known says is.
+    let file = c.args.file in
+    let ready = subst (λ (s : Step Tables). IfReady (λ (x : Tables). (bytes : List ℕ) → IsPartOf bytes file → AreKnownOf c.args.permitted.tables bytes file c.args.known → AreTablesOf c.args.permitted.tables bytes file x) s) c.in-Ready.is c.in_ok-number.ensures.ready in
+    (part, says, c.next_missing.ensures.known c.args.permitted.tables f.bytes part (ready f.bytes part known))
 
 pub returns-clause-agrees : goal.returns-clause-agrees
 returns-clause-agrees c = λ f part known says is.
     let file = c.args.file in
     let t = c.in-Ready.tables in
-    let ready = subst (λ (s : Step Tables). IfReady (λ (x : Tables). (bytes : List ℕ) → IsPartOf bytes file → AreKnownOf bytes file c.args.known → AreTablesOf bytes file x) s) c.in-Ready.is c.in_ok-number.ensures.ready in
-    let of : AreTablesOf f.bytes file t = ready f.bytes part known in
-    let same : HaveSameTables f.bytes (loaded_bytes file) = c.next_missing.ensures.tables c.in_default.is f.bytes part of in
+    let ready = subst (λ (s : Step Tables). IfReady (λ (x : Tables). (bytes : List ℕ) → IsPartOf bytes file → AreKnownOf c.args.permitted.tables bytes file c.args.known → AreTablesOf c.args.permitted.tables bytes file x) s) c.in-Ready.is c.in_ok-number.ensures.ready in
+    let of : AreTablesOf c.args.permitted.tables f.bytes file t = ready f.bytes part known in
+    let same : HaveSameTables f.bytes (loaded_bytes file) = c.next_missing.ensures.tables c.in_default.is c.args.permitted.tables f.bytes part of in
     let stored = sym c.in_ok-image.ensures.opened.0 in (
       (
         subst (λ (o : Option Format). IsFormatBy o f.bytes Format.Qcow2) (sym says) is,
         (
           subst (λ (s : LoadedFile). HaveSameTables f.bytes (loaded_bytes s)) stored same,
-          subst (λ (s : LoadedFile). AreSameBytes f.bytes (loaded_bytes s) 0 (cluster_length f.bytes)) stored (front_of f.bytes file t part of),
+          subst (λ (s : LoadedFile). AreSameBytes f.bytes (loaded_bytes s) 0 (cluster_length f.bytes)) stored (front_of c.args.permitted.tables f.bytes file t part of),
+          of.few,
         ),
       ),
       ap (map string_bytes) c.new.ensures.items,

@@ -17,7 +17,7 @@ use Rattle.imago_session.proofs.layer.load_vmdk.Goals as goal
 
 pub returns-then-length-gt-LONGEST_DESCRIPTOR-clause-refused : goal.returns-then-length-gt-LONGEST_DESCRIPTOR-clause-refused
 returns-then-length-gt-LONGEST_DESCRIPTOR-clause-refused c = λ bytes part.
-    inr (inl (long_descriptor c.args.accepted bytes (omega (arith, part.1, c.length-length.ensures, c.if-length-gt-LONGEST_DESCRIPTOR.true))))
+    inr (inl (long_descriptor c.args.permitted.accepted bytes (omega (arith, part.1, c.length-length.ensures, c.if-length-gt-LONGEST_DESCRIPTOR.true))))
 
 pub returns-in_err-text-clause-refused : goal.returns-in_err-text-clause-refused
 returns-in_err-text-clause-refused c =
@@ -36,7 +36,7 @@ returns-in_err-read-clause-refused c =
     ∙ read_whole file c.in_ok-text.text.items (c.in_ok-text.ensures.whole ∙ c.length-length.ensures) c.in_ok-text.ensures.bytes
     ∙ sym whole in
     ⊎_elim
-    (λ fault. inr (inl (ap (reading_of c.args.accepted) (sym text) ∙ fault)))
+    (λ fault. inr (inl (ap (reading_of c.args.permitted.accepted) (sym text) ∙ fault)))
     (λ memory. inl memory.0)
     c.in_err-read.ensures.reading)
 
@@ -50,7 +50,7 @@ returns-then-has_far-clause-refused c = λ bytes part.
     ∙ read_whole file c.in_ok-text.text.items (c.in_ok-text.ensures.whole ∙ c.length-length.ensures) c.in_ok-text.ensures.bytes
     ∙ sym whole in
     let far = far_same string_bytes c.in_ok-read.read.extents.items ∙ ap has_far (sym c.deref-2.ensures.value) ∙ sym c.has_far.ensures ∙ c.if-has_far.true in
-    let reading = ap (reading_of c.args.accepted) (sym text) ∙ c.in_ok-read.ensures.reading in
+    let reading = ap (reading_of c.args.permitted.accepted) (sym text) ∙ c.in_ok-read.ensures.reading in
     inr (inr (subst ReadsFar (sym reading) far, refl))
 
 pub returns-in_err-names-clause-refused : goal.returns-in_err-names-clause-refused
@@ -80,6 +80,6 @@ returns-clause-agrees c = λ f part known says is.
       c.in_ok-names.ensures.names
           ∙ ap (λ xs. flat_map file_name (map (extent_with string_bytes) xs)) c.deref-3.ensures.value
           ∙ sym (ap names_read c.in_ok-read.ensures.reading)
-          ∙ ap (λ (t : List ℕ). names_read (reading_of c.args.accepted t)) text
+          ∙ ap (λ (t : List ℕ). names_read (reading_of c.args.permitted.accepted t)) text
           ∙ ap (λ (a : Accepted). names_read (reading_of a f.bytes)) (sym image.accepted),
     )

@@ -11,7 +11,7 @@ returns-clause-agrees c =
     let keeps = put.loaded.keeps in
     if_ok_more c.load.result _ _ c.load.ensures.agrees (λ r h f of given.
     h f (put.bytes f.bytes (block_given f.bytes l c.args.block.items given of.0.1) of.0.0, of.0.1 ∙ sym keeps.len)
-    (known_kept f.bytes l.file c.put_block.new.self l.tables keeps of.2) of.1)
+    (known_kept c.args.permitted.tables f.bytes l.file c.put_block.new.self l.tables keeps of.2) of.1)
 
 pub returns-clause-refused : goal.returns-clause-refused
 returns-clause-refused c =
@@ -20,4 +20,4 @@ returns-clause-refused c =
     let keeps = put.loaded.keeps in
     if_err_more c.load.result _ _ c.load.ensures.refused (λ e h f of given.
     h f (put.bytes f.bytes (block_given f.bytes l c.args.block.items given of.0.1) of.0.0, of.0.1 ∙ sym keeps.len)
-    (known_kept f.bytes l.file c.put_block.new.self l.tables keeps of.2) of.1)
+    (known_kept c.args.permitted.tables f.bytes l.file c.put_block.new.self l.tables keeps of.2) of.1)

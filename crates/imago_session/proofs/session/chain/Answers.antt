@@ -12,7 +12,7 @@ loop-driver-init c =
     let none = c.new-image.ensures.backing in
     let one = layers_first x none in
     record {
-      layers = λ accepted files are own low. (are, laid_first accepted files n x c.args.lowest is none own low);
+      layers = λ permitted files are own low. (are, laid_first permitted files n x c.args.lowest is none own low);
       names = λ files. names_first files n x c.args.lowest is none;
       count = omega (arith, one);
     }
@@ -29,12 +29,12 @@ loop-driver-preserved c =
     let len : length c.loop-driver.above.items ≡ length ds + 1 = ap length e ∙ length-append ds (d ∷ []) in
     let old = c.loop-driver.invariant.count in
     record {
-      layers = λ accepted files are own low.
-          let inv = c.loop-driver.invariant.layers accepted files are own low in
-          let last = above_last accepted files ds d (subst (λ (xs : List Layer). AreAbove accepted files xs) e inv.0) in (
+      layers = λ permitted files are own low.
+          let inv = c.loop-driver.invariant.layers permitted files are own low in
+          let last = above_last permitted files ds d (subst (λ (xs : List Layer). AreAbove permitted files xs) e inv.0) in (
             last.0,
-            laid_more accepted files ds d x y c.with_backing-image.ensures.driver on last.1 last.2
-                (subst (λ (xs : List Layer). AreLayersOf accepted (λ (k : ℕ). files (length xs + k)) x) e inv.1),
+            laid_more permitted files ds d x y c.with_backing-image.ensures.driver on last.1 last.2
+                (subst (λ (xs : List Layer). AreLayersOf permitted (λ (k : ℕ). files (length xs + k)) x) e inv.1),
           );
       names = λ files.
           names_more files ds d x y on
@@ -44,11 +44,11 @@ loop-driver-preserved c =
     }
 
 pub returns-clause-layers : goal.returns-clause-layers
-returns-clause-layers c = λ accepted files are own low.
-    let inv = c.loop-driver.invariant.layers accepted files are own low in
+returns-clause-layers c = λ permitted files are own low.
+    let inv = c.loop-driver.invariant.layers permitted files are own low in
     let empty = c.in_default.ensures.cases.0 in
     let whole = c.loop-driver.above.ok.0 in
-    laid_all accepted files c.loop-driver.above.items c.loop-driver.image (nil_of c.loop-driver.above.items (omega (arith, empty, whole))) inv.1
+    laid_all permitted files c.loop-driver.above.items c.loop-driver.image (nil_of c.loop-driver.above.items (omega (arith, empty, whole))) inv.1
 
 pub returns-clause-names : goal.returns-clause-names
 returns-clause-names c = λ files.

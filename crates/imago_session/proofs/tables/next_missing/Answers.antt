@@ -14,13 +14,14 @@ missing_of-missing-requires-clause-inside c = λ at is.
     (table_inside c.args.length cluster (be64 c.deref.result.now (8 * c.loop-tables.tables.index)) at (sym c.l2_table-says.ensures.says ∙ is))
 
 pub loop-tables-preserved : goal.loop-tables-preserved
-loop-tables-preserved c = λ bytes part of.
+loop-tables-preserved c = λ most bytes part of.
     let f = c.args.file.now in
     let t = c.loop-tables.tables in
-    let old = c.loop-tables.invariant bytes part of in
+    let old = c.loop-tables.invariant most bytes part of in
     record {
       head = old.head;
       entries = old.entries;
+      few = old.few;
       first = old.first;
       l1 = old.l1;
       l2 = tables_more t.entries.items t.table.cluster f.length t.index f f (keeps_refl f) old.l2
@@ -32,10 +33,10 @@ loop-tables-preserved c = λ bytes part of.
     }
 
 pub returns-clause-tables : goal.returns-clause-tables
-returns-clause-tables c = λ none bytes part of.
+returns-clause-tables c = λ none most bytes part of.
     let f = c.args.file.now in
     let t = c.loop-tables.tables in
-    let old = c.loop-tables.invariant bytes part of in
+    let old = c.loop-tables.invariant most bytes part of in
     let h = old.head in
     loads_tables bytes h.0 t.entries.items f t.table.start t.table.count t.table.cluster f.length h.1 old.entries t.whole h.2 h.3 h.4 part.1
     part.0 refl f.positive (omega (arith, t.least)) old.first old.l1

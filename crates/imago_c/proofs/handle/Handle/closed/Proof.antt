@@ -21,7 +21,7 @@ use denote.Steps.{nothing}
 use denote.Triple.Walked.{Stays, stay_none, Goes-none, walk_of}
 use Rattle.std.proofs.alloc.Calls.{handle_tells}
 use Rattle.std.proofs.raw_atomic.Walks.{proved_at, leaves}
-use Rattle.imago_opaque.proofs.Values.{both}
+use Rattle.imago_c.proofs.Values.{both}
 use Rattle.std.specs.contracts.alloc.Global as global
 use Rattle.std.specs.contracts.impls.GlobalAllocator.TheImpl as heap
 use Rattle.std.proofs.alloc.Global.TheLaws as laws

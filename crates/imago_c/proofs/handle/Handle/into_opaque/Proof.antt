@@ -20,7 +20,7 @@ use denote.Steps.{nothing, heard}
 use denote.Triple.Walked.{Stays, stay_dropped, walk_of}
 use Rattle.std.proofs.alloc.Calls.{Goes-blank}
 use Rattle.std.proofs.raw_atomic.Walks.{proved_at, leaves}
-use Rattle.imago_opaque.proofs.Values.{both, loose_good, loose_in}
+use Rattle.imago_c.proofs.Values.{both, loose_good, loose_in}
 use Rattle.std.specs.contracts.alloc.Global as global
 use Rattle.std.specs.contracts.impls.GlobalAllocator.TheImpl as heap
 use Rattle.std.proofs.alloc.Global.TheLaws as laws
