@@ -18,7 +18,8 @@ ghost use Rattle.imago_images.specs.Images.{IsImageIn, IsToWrite};
 ghost use Rattle.imago_images.specs.ImageFiles.{HasFiles};
 ghost use Rattle.imago_disk.specs.Disk.{image_of, format_of, values, is_told};
 ghost use Rattle.imago_disk.specs.Shows.{ShowsDisk};
-ghost use Rattle.imago_qcow2_new.specs.Layout.{IsLayoutOf, size_of};
+ghost use Rattle.imago_qcow2_new.specs.Layout.{IsLayoutOf, StoresAll, size_of};
+ghost use Rattle.imago_qcow2_new.specs.Space.{StoresData};
 ghost use Rattle.imago_qcow2_new.specs.Names.{HasNoNames};
 ghost use Rattle.imago_qcow2_new.specs.Image.{IsNewFileIn};
 
@@ -198,6 +199,11 @@ impl<S: Storage> Disk<S> {
         ensures layout { IfOk result (IsLayoutOf format
             (⟦<AnyDriver<S> as FormatDriverInstance>⟧.view (driver (image_of self.now))).size) }
         ensures names { IfOk result HasNoNames }
+        ensures all { all ≡ true → IfOk result StoresAll }
+        ensures sparse { all ≡ false → IsTrue
+            (is_told ⟦<AnyDriver<S> as FormatDriverInstance>⟧.view self.now)
+            → IfOk result (λ l. StoresData l.clusters (value_at
+            (values ⟦<AnyDriver<S> as FormatDriverInstance>⟧.view self.now))) }
     {
         if all {
             return Ok(layout_of_size(self.alloc, format, self.image.size(), true, None)?);

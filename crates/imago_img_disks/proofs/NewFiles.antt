@@ -1,6 +1,6 @@
 -- The files that commands make, from what is put into them.
 -- SPDX-License-Identifier: MIT
-use Rattle.std.proofs.Common.{◌≡◌, ℕ, Bool, false, List, [], Option, Some, None, Result, Ok, Err, length, OnOk, IsOk, IfSome, IsTrue, refl, sym, ap, subst, ◌∙◌}
+use Rattle.std.proofs.Common.{◌≡◌, ℕ, Bool, true, false, List, [], Option, Some, None, Result, Ok, Err, length, OnOk, IsOk, IfSome, IsTrue, refl, sym, ap, subst, ◌∙◌}
 use Rattle.std.specs.Prelude.{option_map}
 use Rattle.std.specs.Int.{next_multiple_of}
 use Rattle.std.specs.Prelude.{unwrap_or, replicate, ◌++◌, IfOk}
@@ -18,7 +18,7 @@ use Rattle.imago_access.specs.Chain.{driver, tells_bytes}
 use Rattle.imago_access.specs.Disk.{disk, value_at}
 use Rattle.imago_qcow2_new.specs.declared.format.Format.{Format}
 use Rattle.imago_qcow2_new.specs.declared.layout.Layout.{Layout}
-use Rattle.imago_qcow2_new.specs.Layout.{IsLayoutOf, StoresNothing, file_length, size_of}
+use Rattle.imago_qcow2_new.specs.Layout.{IsLayoutOf, StoresNothing, StoresAll, file_length, size_of}
 use Rattle.imago_qcow2_new.specs.Image.{IsNewFile, IsNewFileIn}
 use Rattle.imago_qcow2_new.specs.Names.{HasNoNames}
 use Rattle.imago_images.specs.declared.format.ImageFormat.{ImageFormat}
@@ -132,7 +132,7 @@ module _ (how : Opening) (from : List ℕ) where
       → IfSome known (λ files. (file : List ℕ) → IsCopyBy how from l files file
       → IsQcow2Copy how from format files file)
   copy_in format l (size, is, none) known = each_of known _ (λ files file (d, shows, rounded, new).
-      (d, shows, (l, record { disk = rounded; version = is.version; bits = is.bits; gaps = is.gaps }, none, new)))
+      (d, shows, (l, record { disk = rounded; version = is.version; bits = is.bits; gaps = is.gaps; l1 = is.l1; tables = is.tables; counts = is.counts }, none, new)))
 
   module _ {D St : Type 0} (view : D → View St) where
     -- what was put into a target is a copy
@@ -207,7 +207,7 @@ below_sized c b path how known r e f h =
 
 pub empty_by : (settings : Settings) (below : Option Backing) (size : ℕ) (l : Layout)
     → IsLayoutOf (format_by settings) size l → HasNamesBelow below l
-    → (settings.preallocated ≡ false → StoresNothing l) → (known : Option (List ℕ → List ℕ))
+    → (settings.preallocated ≡ false → StoresNothing l) → (settings.preallocated ≡ true → StoresAll l) → (known : Option (List ℕ → List ℕ))
     → IfSome known (λ files. (file : List ℕ) → IsNewFile l (λ _. Byte 0) file
     → IsEmptyFile (New.Qcow2 settings) below size file)
-empty_by settings below size l is names none known = each_of known _ (λ files file made. (l, is, names, none, made))
+empty_by settings below size l is names none all known = each_of known _ (λ files file made. (l, is, names, none, all, made))

@@ -1,6 +1,6 @@
 -- What the files have that commands make.
 -- SPDX-License-Identifier: MIT
-use Rattle.std.specs.Prelude.{◌≡◌, ℕ, Bool, false, List, Option, Some, None}
+use Rattle.std.specs.Prelude.{◌≡◌, ℕ, Bool, true, false, List, Option, Some, None}
 use Rattle.std.specs.Prelude.{IfSome, codes, length, option_map, replicate}
 use Rattle.std.specs.Int.{next_multiple_of}
 use Rattle.imago_drivers.specs.Place.{Value, Byte}
@@ -19,7 +19,7 @@ use Rattle.imago_qcow2_new.specs.declared.format.Gaps.TheVariants as G
 use Rattle.imago_qcow2_new.specs.declared.format.Version.{Version}
 use Rattle.imago_qcow2_new.specs.declared.format.Version.TheVariants as V
 use Rattle.imago_qcow2_new.specs.declared.layout.Layout.{Layout}
-use Rattle.imago_qcow2_new.specs.Layout.{IsLayoutOf, StoresNothing, size_of}
+use Rattle.imago_qcow2_new.specs.Layout.{IsLayoutOf, StoresNothing, StoresAll, size_of}
 use Rattle.imago_qcow2_new.specs.Names.{HasNames, HasNoNames}
 use Rattle.imago_qcow2_new.specs.Image.{IsNewFile, IsQcow2Of}
 use Rattle.imago_images.specs.declared.opening.Opening.{Opening}
@@ -85,12 +85,13 @@ HasNamesBelow (Some b) l = HasNames l b.file.now (format_text b.format)
 
 -- A new file of a disk of so many bytes, in which nothing was written. A raw one has zeroes up to
 -- the next whole sector. Of a qcow2 one all is so that is said of a copy of zeroes; nothing is
--- stored in it, unless all clusters are, so it shows its layer below; and it names that one.
+-- stored in it, so it shows its layer below, or all clusters are; and it names that one.
 abbrev pub IsEmptyFile : NewFormat → Option Backing → ℕ → List ℕ → Type 0
 IsEmptyFile New.Raw below size file = file ≡ replicate (next_multiple_of size 512) 0
 IsEmptyFile (New.Qcow2 s) below size file =
     (l : Layout) × IsLayoutOf (format_by s) size l × HasNamesBelow below l
-    × (s.preallocated ≡ false → StoresNothing l) × IsNewFile l (λ _. Byte 0) file
+    × (s.preallocated ≡ false → StoresNothing l) × (s.preallocated ≡ true → StoresAll l)
+    × IsNewFile l (λ _. Byte 0) file
 
 -- the size that a new image is to have: the one that was said, or that of the layer below
 abbrev pub IsSizeBelow : Create → Option Backing → (List ℕ → List ℕ) → ℕ → Type 0

@@ -1,10 +1,10 @@
 // SPDX-License-Identifier: MIT
 //! New images in which nothing was written.
-ghost use Rattle.std.specs.Prelude.{◌≡◌, [], OnOk, OnErr, IfOk, IfSome, false, replicate};
+ghost use Rattle.std.specs.Prelude.{◌≡◌, [], OnOk, OnErr, IfOk, IfSome, true, false, replicate};
 ghost use Rattle.std.specs.Int.{next_multiple_of};
 ghost use Rattle.imago_drivers.specs.Place.{Byte};
 ghost use Rattle.imago_qcow2_new.specs.Image.{IsNewFile};
-ghost use Rattle.imago_qcow2_new.specs.Layout.{IsLayoutOf, StoresNothing, file_length};
+ghost use Rattle.imago_qcow2_new.specs.Layout.{IsLayoutOf, StoresNothing, StoresAll, file_length};
 ghost use Rattle.imago_words.specs.declared.settings.NewFormat.TheVariants as New;
 ghost use Rattle.imago_access.specs.Chain.{driver};
 ghost use Rattle.imago_disk.specs.Disk.{image_of};
@@ -220,6 +220,7 @@ pub(crate) fn planned(
     ensures layout { IfOk result (IsLayoutOf (format_by settings) size) }
     ensures names { IfOk result (HasNamesBelow below.entry) }
     ensures none { settings.preallocated ≡ false → IfOk result StoresNothing }
+    ensures all { settings.preallocated ≡ true → IfOk result StoresAll }
 {
     match layout_over(alloc, size, settings, below) {
         Ok(layout) => Ok(layout),
@@ -237,6 +238,7 @@ fn layout_over(
     ensures layout { IfOk result (IsLayoutOf (format_by settings) size) }
     ensures names { IfOk result (HasNamesBelow below.entry) }
     ensures none { settings.preallocated ≡ false → IfOk result StoresNothing }
+    ensures all { settings.preallocated ≡ true → IfOk result StoresAll }
 {
     let format = new_format(settings);
     let Some(below) = below else {

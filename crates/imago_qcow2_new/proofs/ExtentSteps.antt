@@ -73,7 +73,7 @@ module _ (unit end all : ℕ) where
       (λ h f. let e : spot all (r ∷ rs) q ≡ spot all rs q = spot_behind all r rs q (omega (arith, h, lt)) in
       subst (λ (s : Spot). (spot all rs p).before < s.before) (sym e) (grows (r.start + r.count) (before + r.count) rs rest p q lt f))
 
-  ends : (from before : ℕ) (rs : List Extent) → AreExtents unit end all from before rs → from ≤ end
+  pub ends : (from before : ℕ) (rs : List Extent) → AreExtents unit end all from before rs → from ≤ end
   ends from before [] a = omega (arith, a.0)
   ends from before (r ∷ rs) a = let next = ends (r.start + r.count) (before + r.count) rs a.1 in let f : from ≤ r.start = a.0.0 in omega (arith, next, f)
 
@@ -203,6 +203,14 @@ module _ (unit end all : ℕ) (rs : List Extent) (a : AreExtents unit end all 0 
       kind = λ i k. ap (λ (s : Spot). s.stored) (same i) ∙ stored_ahead unit end all r (drop (suc n) rs) p i (omega (arith, h, k));
       reached = λ i k. ap (λ (s : Spot). s.before) (same i) ∙ part_ahead unit end all extents.0 extents.1 r (drop (suc n) rs) extents.2 p i (omega (arith, h, k));
     }
+
+    -- and an extent begins where a gap before it ends
+    pub next_left : p < r.start → ((spot all rs r.start).stored ≡ true) × (r.start % unit ≡ 0)
+    next_left h =
+        let at = extents.2 in
+        let some : 0 < r.count = at.0.1.0 in
+        let seen : spot all rs r.start ≡ spot all (r ∷ drop (suc n) rs) r.start = sym (low r.start (omega (arith, h))) ∙ ap (λ (x : List Extent). spot all x r.start) here in
+        (ap (λ (s : Spot). s.stored) (seen ∙ spot_inside all r (drop (suc n) rs) r.start (omega arith) (omega (arith, some))), at.0.1.1.1.0)
 
     pub inside_left : r.start ≤ p → p < r.start + r.count → IsPart all rs p (record { is_stored = true; before = r.before + (p - r.start); count = r.count - (p - r.start) })
     inside_left h g = record {

@@ -13,8 +13,8 @@ use Rattle.imago_access.specs.Disk.{disk, value_at}
 use Rattle.imago_copy.specs.Appended.{IsAppended}
 use Rattle.imago_qcow2_new.specs.declared.format.Format.{Format}
 use Rattle.imago_qcow2_new.specs.declared.layout.Layout.{Layout}
-use Rattle.imago_qcow2_new.specs.Space.{Fills}
 use Rattle.imago_qcow2_new.specs.Layout.{IsLayoutOf, entry_value, heads}
+use Rattle.imago_qcow2_new.specs.Space.{Fills, StoresData}
 use Rattle.imago_qcow2_new.specs.Names.{HasNoNames}
 use Rattle.imago_qcow2_new.specs.Image.{IsWritten, IsNewFile, IsNewFileIn, IsQcow2In}
 use Rattle.imago_qcow2_new.specs.Extents.{Spot, spot}
@@ -90,8 +90,8 @@ zeroes_fill l (Some had) new put = λ long.
 -- a file by a layout of an image is one of the image's disk
 pub whole_in : {D St : Type 0} (view : D → View St) (x : FormatAccess D) (format : Format) (l : Layout)
     (old new : Option (List ℕ)) → IsLayoutOf format (view (driver x)).size l → HasNoNames l
-    → IsNewFileIn l (value_at (disk view x)) old new → IsQcow2In format (disk view x) old new
-whole_in view x format l None new planned none made = tt
-whole_in view x format l (Some old) new planned none (file, is, made) =
+    → StoresData l.clusters (value_at (disk view x)) → IsNewFileIn l (value_at (disk view x)) old new → IsQcow2In format (disk view x) old new
+whole_in view x format l None new planned none sparse made = tt
+whole_in view x format l (Some old) new planned none sparse (file, is, made) =
     let long : (view (driver x)).size ≡ length (disk view x) = sym (length-map-range_with_len (disk_value view x) 0 (view (driver x)).size) in
-    (file, is, (l, subst (λ (n : ℕ). IsLayoutOf format n l) long planned, none, made))
+    (file, is, (l, subst (λ (n : ℕ). IsLayoutOf format n l) long planned, none, sparse, made))

@@ -10,6 +10,9 @@ pub mod DiskSteps
 pub mod EntrySteps
 pub mod Reading
 pub mod Sums
+pub mod StoredSteps
+pub mod NeedSteps
+pub mod FewestSteps
 pub mod Counting
 pub mod Uses
 pub mod Valid

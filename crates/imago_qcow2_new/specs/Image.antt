@@ -1,7 +1,7 @@
 -- What a new file has, and what its reader makes of it.
 -- SPDX-License-Identifier: MIT
-use Rattle.std.specs.Prelude.{◌≡◌, ℕ, ◌*◌, ◌<◌, List, length, slice_index, false, Option, Some}
-use Rattle.std.specs.Prelude.{None, IsOk}
+use Rattle.std.specs.Prelude.{◌≡◌, ℕ, ◌*◌, ◌<◌, List, length, slice_index, false, Option}
+use Rattle.std.specs.Prelude.{Some, None, IsOk}
 use Rattle.imago_drivers.specs.Place.{Value, Byte, Lower, shown}
 use Rattle.imago_access.specs.Disk.{value_at}
 use Rattle.imago_qcow2.specs.Header.{header_of}
@@ -15,7 +15,7 @@ use Rattle.imago_qcow2_new.specs.declared.format.Format.{Format}
 use Rattle.imago_qcow2_new.specs.declared.layout.Layout.{Layout}
 use Rattle.imago_qcow2_new.specs.Names.{HasNames, HasNoNames, IsNamed}
 use Rattle.imago_qcow2_new.specs.Words.{byte_of}
-use Rattle.imago_qcow2_new.specs.Space.{spot_of, byte_at}
+use Rattle.imago_qcow2_new.specs.Space.{spot_of, byte_at, StoresData}
 use Rattle.imago_qcow2_new.specs.Layout.{IsLayoutOf, head_word, table_word}
 
 -- What a file has, by the words of its tables and the values of a disk: before the L2 tables; in
@@ -76,13 +76,18 @@ IsNewFileIn l values (Some old) new =
 -- A new qcow2 file of that format for a disk, with no layer below. By the definitions of its reader
 -- and of its check its header has no fault; its disk is that one, with zeroes up to the next whole
 -- sector; each of its clusters is used once, and has the reference count 1; and no entry of a table
--- has a fault.
+-- has a fault. Each table is as small as it can be.
 abbrev pub IsQcow2Of : Format → List Value → List ℕ → Type 0
 IsQcow2Of format disk file = (l : Layout) × IsLayoutOf format (length disk) l × HasNoNames l
     × IsNewFile l (value_at disk) file
+
+-- Such a file as short as it can be: each cluster of the disk that is stored has a byte that isn't 0.
+abbrev pub IsSparseQcow2Of : Format → List Value → List ℕ → Type 0
+IsSparseQcow2Of format disk file = (l : Layout) × IsLayoutOf format (length disk) l × HasNoNames l
+    × StoresData l.clusters (value_at disk) × IsNewFile l (value_at disk) file
 
 -- a target that was empty has such a file, where that is known
 abbrev pub IsQcow2In : Format → List Value → Option (List ℕ) → Option (List ℕ) → Type 0
 IsQcow2In format disk None new = Unit {0}
 IsQcow2In format disk (Some old) new =
-    (file : List ℕ) × (new ≡ Some file) × IsQcow2Of format disk file
+    (file : List ℕ) × (new ≡ Some file) × IsSparseQcow2Of format disk file

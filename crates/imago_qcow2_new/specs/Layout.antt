@@ -1,14 +1,16 @@
 -- Where everything stands in a new file, and the words of its tables.
 -- SPDX-License-Identifier: MIT
 use Rattle.std.specs.Prelude.{ℕ, ◌+◌, ◌-◌, ◌*◌, ◌/◌, ◌^◌, if◌then◌else◌, nat_lt, nat_eq}
-use Rattle.std.specs.Prelude.{◌≡◌, List, []}
-use Rattle.std.specs.Int.{next_multiple_of}
+use Rattle.std.specs.Prelude.{◌≡◌, ◌<◌, ◌≤◌, ◌⊎◌, List, [], true}
+use Rattle.std.specs.Int.{div_ceil, next_multiple_of}
 use Rattle.imago_drivers.specs.Place.{Value, Byte}
 use Rattle.imago_qcow2_new.specs.declared.format.Format.{Format}
 use Rattle.imago_qcow2_new.specs.declared.format.Gaps.{Gaps}
 use Rattle.imago_qcow2_new.specs.declared.format.Gaps.TheVariants as G
 use Rattle.imago_qcow2_new.specs.declared.layout.Layout.{Layout}
+use Rattle.imago_qcow2_new.specs.declared.extents.Extents.{Extents}
 use Rattle.imago_qcow2_new.specs.Extents.{Spot, spot}
+use Rattle.imago_qcow2_new.specs.Space.{stores}
 use Rattle.imago_qcow2_new.specs.Words.{byte_of, words_from}
 use Rattle.imago_qcow2_new.specs.Header.{header_word}
 
@@ -24,16 +26,73 @@ file_length l = l.end
 abbrev pub size_of : Layout → ℕ
 size_of l = l.header.size
 
--- A layout is that of a disk of so many bytes, in whole sectors, and of that format.
+-- How many L2 tables the size of a disk needs, of which each has the entries of so many bytes. The
+-- L1 table has an entry for each, and so none where the disk has no byte.
+abbrev pub tables_for : ℕ → ℕ → ℕ
+tables_for cluster size = div_ceil size (cluster / 8 * cluster)
+
+-- a cluster of that L2 table is stored
+abbrev pub HasCluster : ℕ → Extents → ℕ → Type 0
+HasCluster cluster clusters i = (k : ℕ) × (k < cluster / 8)
+    × (stores clusters ((i * (cluster / 8) + k) * cluster) ≡ true)
+
+-- The L2 table is needed: a cluster of it is stored, or the entry of one that isn't says that it is
+-- zero.
+abbrev pub NeedsTable : ℕ → ℕ → Extents → ℕ → Type 0
+NeedsTable gap cluster clusters i = (0 < gap) ⊎ HasCluster cluster clusters i
+
+-- Of the first L2 tables, so many of them, exactly those are there that are needed.
+pub record AreNeeded (gap cluster : ℕ) (clusters tables : Extents) (count : ℕ) : Type 0 where
+  pub there : (i : ℕ) → i < count → stores tables (i * cluster) ≡ true
+      → NeedsTable gap cluster clusters i
+  pub all : (i : ℕ) → i < count → NeedsTable gap cluster clusters i
+      → stores tables (i * cluster) ≡ true
+
+-- How many clusters of a file need a reference count, beside those of the counts themselves: the
+-- header's, those of the L1 table, the L2 tables that there are, and the clusters of the disk that
+-- are stored.
+abbrev pub counted_clusters : Layout → ℕ
+counted_clusters l = (l.tables.stored + l.clusters.stored) / l.cluster + 1
+    + next_multiple_of (8 * l.header.l1_count) l.cluster / l.cluster
+
+-- How many other clusters a block of counts counts, beside itself; and how many a cluster of the
+-- table of blocks does by the blocks that it names, beside these and itself.
+abbrev pub per_block : ℕ → ℕ
+per_block cluster = cluster / 2 - 1
+
+abbrev pub per_table : ℕ → ℕ
+per_table cluster = per_block cluster * (cluster / 8) - 1
+
+-- There are as few blocks of reference counts as count all clusters of a file, and the table of
+-- these has as few clusters as name them.
+pub record HasFewestCounts (l : Layout) : Type 0 where
+  pub table : l.header.counts_clusters ≡ div_ceil (counted_clusters l) (per_table l.cluster)
+  pub blocks : l.blocks
+      ≡ div_ceil (counted_clusters l + l.header.counts_clusters) (per_block l.cluster)
+
+-- so many blocks of counts count all clusters of a file, and a table of so many clusters names them
+abbrev pub CountsAll : Layout → ℕ → ℕ → Type 0
+CountsAll l table blocks = (blocks ≤ table * (l.cluster / 8))
+    × (counted_clusters l + table + blocks ≤ blocks * (l.cluster / 2))
+
+-- A layout is that of a disk of so many bytes, in whole sectors, and of that format. Each of its
+-- tables is as small as it can be.
 pub record IsLayoutOf (format : Format) (size : ℕ) (l : Layout) : Type 0 where
   pub disk : l.header.size ≡ next_multiple_of size 512
   pub version : l.header.version ≡ format.version
   pub bits : l.header.cluster_bits ≡ format.cluster_bits
   pub gaps : l.gap ≡ gap_entry format.gaps
+  pub l1 : l.header.l1_count ≡ tables_for l.cluster l.header.size
+  pub tables : AreNeeded l.gap l.cluster l.clusters l.tables l.header.l1_count
+  pub counts : HasFewestCounts l
 
 -- nothing of the disk is stored
 abbrev pub StoresNothing : Layout → Type 0
 StoresNothing l = l.clusters.extents.items ≡ []
+
+-- all of it is
+abbrev pub StoresAll : Layout → Type 0
+StoresAll l = (p : ℕ) → p < l.header.size → stores l.clusters p ≡ true
 
 -- the entry of what stands at a spot of a space whose stored bytes begin there: with the bit that
 -- says that nothing else refers to it, or that word where it isn't stored

@@ -6,6 +6,7 @@ ghost use Rattle.imago_qcow2_new.specs.Layout.{entry_at, count_word, block_word,
 ghost use Rattle.imago_qcow2_new.specs.Layout.{l1_word, head_word, table_word};
 
 use crate::extents::Extents;
+use crate::l2::has_cluster;
 use crate::layout::Layout;
 use crate::words::Words;
 
@@ -129,10 +130,5 @@ pub(crate) fn is_empty(layout: &Layout, table: u64) -> bool
     ensures { result ≡ true → (i : ℕ) → i < layout.now.cluster / 8
         → table_word layout.now (table * (layout.now.cluster / 8) + i) ≡ layout.now.gap }
 {
-    let span = layout.cluster / 8 * layout.cluster;
-    let part = layout.clusters.part_at(table * span);
-    if part.is_stored {
-        return false;
-    }
-    part.count >= span
+    !has_cluster(&layout.clusters, layout.cluster, table)
 }

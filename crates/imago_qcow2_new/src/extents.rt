@@ -35,14 +35,17 @@ pub struct Extents {
 }
 
 impl Extents {
-    ghost use Rattle.std.specs.Prelude.{ℕ, [], length, drop, slice_index_or};
+    ghost use Rattle.std.specs.Prelude.{ℕ, ◌-◌, [], length, drop, slice_index_or, max, true, false};
+    ghost use Rattle.std.specs.Prelude.{OnOk};
     ghost use Rattle.imago_qcow2_new.specs.declared.extent.Extent.{Extent};
     ghost use Rattle.imago_qcow2_new.specs.Extents.{spot, IsPart};
+    ghost use Rattle.imago_qcow2_new.specs.Space.{stores, StoresMore};
 
     /// No part, of a space of such units.
     pub fn new(alloc: Global, unit: u64) -> Self
         ensures unit { result.unit ≡ unit }
         ensures none { result.extents.items ≡ [] }
+        ensures end { result.end ≡ 0 }
     {
         Extents {
             unit,
@@ -58,6 +61,10 @@ impl Extents {
         requires positive { 0 < self.old.unit }
         requires small { to + self.old.unit < 2 ^ 64 }
         ensures same { self.new.unit ≡ self.old.unit }
+        ensures more { OnOk result (StoresMore self.old self.new
+            (max self.old.end (from - from % self.old.unit)) (next_multiple_of to self.old.unit)) }
+        ensures end { OnOk result
+            (self.new.end ≤ max self.old.end (next_multiple_of to self.old.unit)) }
     {
         let start = self.end.max(from - from % self.unit);
         let end = rounded_up(to, self.unit);
@@ -78,6 +85,8 @@ impl Extents {
         requires small { self.old.end + count < 2 ^ 64 }
         requires whole { count % self.old.unit ≡ 0 }
         ensures same { self.new.unit ≡ self.old.unit }
+        ensures more { StoresMore self.old self.new self.old.end (self.old.end + count) }
+        ensures end { self.new.end ≡ self.old.end + count }
     {
         self.extents[last].count += count;
         self.end += count;
@@ -92,6 +101,8 @@ impl Extents {
         requires start_whole { start % self.old.unit ≡ 0 }
         requires whole { count % self.old.unit ≡ 0 }
         ensures same { self.new.unit ≡ self.old.unit }
+        ensures more { OnOk result (StoresMore self.old self.new start (start + count)) }
+        ensures end { OnOk result (self.new.end ≡ start + count) }
     {
         let extent = Extent {
             start,
@@ -128,8 +139,12 @@ impl Extents {
         low
     }
 
-    /// What stands from an offset on.
+    /// What stands from an offset on. What isn't stored ends where something is, or nothing is behind
+    /// it.
     pub fn part_at(&self, offset: u64) -> Part
+        ensures next { result.is_stored ≡ false → «offset» + result.count + 1 < 2 ^ 64
+            → (stores self.now («offset» + result.count) ≡ true)
+            × ((«offset» + result.count) % self.now.unit ≡ 0) }
         ensures part { IsPart self.now.stored self.now.extents.items «offset» result }
         ensures spot { spot self.now.stored self.now.extents.items «offset»
             ≡ record { stored = result.is_stored; before = result.before } }

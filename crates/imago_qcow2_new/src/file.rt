@@ -18,10 +18,11 @@ use std::alloc::Global;
 /// read by way of the buffer: first to find these, as [`layout_of`] says, and then to write the
 /// others.
 ///
-/// What the target has then is a file of that format for the disk (`IsQcow2Of`), which is said
+/// What the target has then is a file of that format for the disk (`IsSparseQcow2Of`), which is said
 /// where the target tells what it has, and the image tells its bytes: its header has no fault, its
 /// disk is the image's, byte for byte, with zeroes up to the next multiple of 512 bytes, and each
-/// of its clusters is used once and has the reference count 1.
+/// of its clusters is used once and has the reference count 1. It is as short as it can be: each
+/// cluster of the disk that is stored has a byte that isn't 0, and each table is one that is needed.
 ///
 /// Where the length of the file has to be known before, [`layout_of`] and [`write_image`] do the
 /// same in two steps.

@@ -1,11 +1,13 @@
 // SPDX-License-Identifier: MIT
 //! Laws of new files. The functions do nothing; their contracts are proved.
-ghost use Rattle.std.specs.Prelude.{ℕ, ◌<◌, List, length, IsOk};
+ghost use Rattle.std.specs.Prelude.{ℕ, ◌<◌, ◌≤◌, List, length, IsOk};
 ghost use Rattle.imago_drivers.specs.Place.{Value};
 ghost use Rattle.imago_qcow2.specs.Header.{header_of};
 ghost use Rattle.imago_qcow2_check.specs.Known.{IsKnown};
 ghost use Rattle.imago_qcow2_check.specs.Verdicts.{IsFaultless};
+ghost use Rattle.imago_qcow2_new.specs.declared.format.Format.{Format};
 ghost use Rattle.imago_qcow2_new.specs.declared.layout.Layout.{Layout};
+ghost use Rattle.imago_qcow2_new.specs.Layout.{IsLayoutOf, CountsAll};
 ghost use Rattle.imago_qcow2_new.specs.Names.{HasNames, HasNoNames, IsNamed};
 ghost use Rattle.imago_qcow2_new.specs.Image.{IsWritten, ShowsOver, IsUsedOnce};
 
@@ -32,6 +34,14 @@ pub fn new_files_are_faultless()
 pub fn new_files_use_clusters_once()
     ensures { (l : Layout) (values : ℕ → Value) (file : List ℕ) → IsWritten l values file
         → IsUsedOnce file }
+{}
+
+/// No fewer blocks of reference counts count all clusters of a new file, and no shorter table names as
+/// many as do.
+pub fn new_files_have_fewest_counts()
+    ensures { (format : Format) (size : ℕ) (l : Layout) → IsLayoutOf format size l
+        → (table blocks : ℕ) → CountsAll l table blocks
+        → (l.header.counts_clusters ≤ table) × (l.blocks ≤ blocks) }
 {}
 
 /// What a new file says of the layer below, where it has these names: the file's, which isn't

@@ -4,9 +4,11 @@ ghost use Rattle.std.specs.Prelude.{◌≡◌, ◌+◌, ◌*◌, ◌/◌, ◌%�
 ghost use Rattle.std.specs.Int.{next_multiple_of};
 ghost use Rattle.imago_qcow2_new.specs.Header.{number_of};
 
+use crate::counts::{counted, plus, starts_of, times};
 use crate::extents::{Extents, rounded_up};
-use crate::format::{Backing, Format, FormatError, Gaps};
+use crate::format::{Backing, Format, FormatError};
 use crate::header::NewHeader;
+use crate::l2::{count_tables, tables_of};
 use crate::names::names_of;
 use std::alloc::Global;
 
@@ -80,12 +82,6 @@ const SECTOR: u64 = 512;
 /// The greatest length of a file, in bytes: what an entry's offset can say.
 const LONGEST_FILE: u64 = 1 << 56;
 
-/// The greatest length of the table of reference count blocks, in bytes, as qemu opens it.
-const LONGEST_COUNT_TABLE: u64 = 8 << 20;
-
-/// How many entries an L1 table has at most, as qemu opens it.
-const MOST_TABLES: u64 = 4194304;
-
 /// The size of a disk that has so many bytes at least: in whole sectors of 512 bytes.
 pub fn rounded_size(size: u64) -> Result<u64, FormatError>
     ensures least { IfOk result (λ n. size ≤ n) }
@@ -123,137 +119,6 @@ fn power_of(bits: u32) -> u64
     2u64.pow(bits)
 }
 
-/// How many entries the L1 table of a disk has.
-fn count_tables(size: u64, cluster: u64) -> Result<u32, FormatError>
-    requires least { 512 ≤ cluster }
-    requires most { cluster ≤ 2097152 }
-    ensures covers { IfOk result (λ n. size ≤ n * (cluster / 8 * cluster)) }
-    ensures few { IfOk result (λ n. n ≤ 4194304) }
-{
-    let count = size.div_ceil(cluster / 8 * cluster);
-    if count > MOST_TABLES {
-        return Err(FormatError::TooLarge);
-    }
-    Ok(count as u32)
-}
-
-/// The L2 tables of a disk: those that stored clusters need, or all, where gaps have entries.
-fn tables_of(
-    alloc: Global,
-    stored: &Extents,
-    cluster: u64,
-    count: u32,
-    gaps: Gaps,
-) -> Result<Extents, FormatError>
-    requires least { 512 ≤ cluster }
-    requires most { cluster ≤ 2097152 }
-    requires few { count ≤ 4194304 }
-    ensures { IfOk result (λ r. r.unit ≡ cluster) }
-{
-    let mut tables = Extents::new(alloc, cluster);
-    if gaps == Gaps::Zero {
-        tables.cover(0, count as u64 * cluster)?;
-        return Ok(tables);
-    }
-    for extent in &stored.extents {
-        cover_tables(&mut tables, extent.start, extent.count, cluster)?;
-    }
-    Ok(tables)
-}
-
-/// Makes those L2 tables stored that have the entries of that part of the disk.
-fn cover_tables(
-    tables: &mut Extents,
-    start: u64,
-    count: u64,
-    cluster: u64,
-) -> Result<(), FormatError>
-    requires least { 512 ≤ cluster }
-    requires most { cluster ≤ 2097152 }
-    requires unit { tables.old.unit ≡ cluster }
-    ensures { tables.new.unit ≡ cluster }
-{
-    let end = plus(start, count)?;
-    if end > LARGEST_DISK {
-        return Err(FormatError::TooLarge);
-    }
-    tables.cover(start / cluster * 8, end / cluster * 8)?;
-    Ok(())
-}
-
-/// How many clusters the table of reference counts has, for so many other clusters, and how many
-/// blocks there are.
-fn counts_of(others: u64, cluster: u64) -> Result<(u64, u64), FormatError>
-    requires least { 512 ≤ cluster }
-    requires most { cluster ≤ 2097152 }
-{
-    let in_block = cluster / 2 - 1;
-    let table = others.div_ceil(in_block * (cluster / 8) - 1);
-    let blocks = plus(others, table)?.div_ceil(in_block);
-    Ok((table, blocks))
-}
-
-/// The sum of two lengths.
-fn plus(left: u64, right: u64) -> Result<u64, FormatError>
-    ensures { IfOk result (λ n. n ≡ left + right) }
-{
-    left.checked_add(right).ok_or(FormatError::TooLarge)
-}
-
-/// The length of so many clusters.
-fn times(count: u64, cluster: u64) -> Result<u64, FormatError>
-    ensures { IfOk result (λ n. n ≡ count * cluster) }
-{
-    count.checked_mul(cluster).ok_or(FormatError::TooLarge)
-}
-
-/// Where the parts of a file of so many clusters stand.
-#[derive(Clone, Copy)]
-struct Starts {
-    counts: u32,
-    blocks: u64,
-    blocks_start: u64,
-    l1_start: u64,
-    tables_start: u64,
-}
-
-/// Where the parts of a file stand that has so many clusters besides reference counts.
-fn starts_of(others: u64, l1_count: u32, cluster: u64) -> Result<Starts, FormatError>
-    requires least { 512 ≤ cluster }
-    requires most { cluster ≤ 2097152 }
-    requires few { l1_count ≤ 4194304 }
-    ensures counts_few { IfOk result (λ s. s.counts < 2 ^ 32) }
-    ensures blocks_at { IfOk result (λ s. s.blocks_start ≡ cluster + s.counts * cluster) }
-    ensures blocks_named { IfOk result (λ s. s.blocks ≤ s.counts * (cluster / 8)) }
-    ensures blocks_behind { IfOk result (λ s. cluster ≤ s.blocks_start) }
-    ensures blocks_whole { IfOk result (λ s. s.blocks_start % cluster ≡ 0) }
-    ensures l1_at { IfOk result (λ s. s.l1_start ≡ s.blocks_start + s.blocks * cluster) }
-    ensures l1_whole { IfOk result (λ s. s.l1_start % cluster ≡ 0) }
-    ensures tables_behind { IfOk result (λ s. s.l1_start + 8 * l1_count ≤ s.tables_start) }
-    ensures tables_near { IfOk result
-        (λ s. s.tables_start < s.l1_start + 8 * l1_count + cluster) }
-    ensures tables_whole { IfOk result (λ s. s.tables_start % cluster ≡ 0) }
-{
-    let (counts, blocks) = counts_of(others, cluster)?;
-    let counts_length = times(counts, cluster)?;
-    if counts > u32::MAX as u64
-        || counts_length > LONGEST_COUNT_TABLE
-        || blocks > times(counts, cluster / 8)?
-    {
-        return Err(FormatError::TooLarge);
-    }
-    let blocks_start = plus(cluster, counts_length)?;
-    let l1_start = plus(blocks_start, times(blocks, cluster)?)?;
-    let tables_start = plus(l1_start, rounded_up(8 * l1_count as u64, cluster))?;
-    Ok(Starts {
-        counts: counts as u32,
-        blocks,
-        blocks_start,
-        l1_start,
-        tables_start,
-    })
-}
-
 impl Layout {
     ghost use Rattle.imago_qcow2_new.specs.Layout.{IsLayoutOf, file_length, size_of};
     ghost use Rattle.imago_qcow2_new.specs.Names.{HasNamesOf};
@@ -289,15 +154,9 @@ impl Layout {
             return Err(FormatError::OtherClusters);
         }
         let names = names_of(alloc, backing, cluster)?;
-        let tables = tables_of(alloc, &stored, cluster, l1_count, format.gaps)?;
-        if tables.end > l1_count as u64 * cluster {
-            return Err(FormatError::OtherClusters);
-        }
+        let tables = tables_of(alloc, &stored, cluster, l1_count, gap)?;
         let used = plus(tables.stored, stored.stored)?;
-        let others = plus(
-            used / cluster + 1,
-            rounded_up(8 * l1_count as u64, cluster) / cluster,
-        )?;
+        let others = counted(used, l1_count, cluster)?;
         let starts = starts_of(others, l1_count, cluster)?;
         let data_start = plus(starts.tables_start, tables.stored)?;
         let end = plus(data_start, stored.stored)?;

@@ -6,12 +6,14 @@
 //! it into a target.
 #![tactic(auto)]
 
+mod counts;
 mod entries;
 pub mod extent;
 pub mod extents;
 pub mod file;
 pub mod format;
 mod header;
+mod l2;
 pub mod laws;
 pub mod layout;
 mod names;

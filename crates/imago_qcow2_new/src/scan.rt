@@ -1,9 +1,14 @@
 // SPDX-License-Identifier: MIT
 //! Which clusters of a disk are to be stored in a new file of it.
-ghost use Rattle.std.specs.Prelude.{◌≡◌, ◌+◌, ◌^◌, ◌<◌, ◌≤◌, length, IfOk, false};
-ghost use Rattle.imago_access.specs.Chain.{driver};
-ghost use Rattle.imago_access.specs.ReaderOf.{IsKeeping};
-ghost use Rattle.imago_qcow2_new.specs.Layout.{IsLayoutOf, StoresNothing};
+ghost use Rattle.std.specs.Prelude.{◌≡◌, ℕ, ◌+◌, ◌%◌, ◌^◌, ◌<◌, ◌≤◌, [], length, true, false, IfOk};
+ghost use Rattle.std.specs.Prelude.{OnOk, IsTrue};
+ghost use Rattle.std.specs.Int.{next_multiple_of};
+ghost use Rattle.imago_access.specs.Chain.{driver, tells_bytes};
+ghost use Rattle.imago_access.specs.Disk.{disk, value_at};
+ghost use Rattle.imago_access.specs.ReaderOf.{image_of, IsKeeping};
+ghost use Rattle.imago_drivers.specs.Place.{Value, HasValues};
+ghost use Rattle.imago_qcow2_new.specs.Space.{stores, StoresData};
+ghost use Rattle.imago_qcow2_new.specs.Layout.{IsLayoutOf, StoresNothing, StoresAll};
 ghost use Rattle.imago_qcow2_new.specs.Names.{HasNamesOf};
 
 use crate::extents::Extents;
@@ -38,7 +43,8 @@ impl Scan {
     /// Nothing of a disk in such units.
     fn new(alloc: Global, unit: u64) -> Self
         requires { 0 < unit }
-        ensures { result.unit ≡ unit }
+        ensures unit { result.unit ≡ unit }
+        ensures none { result.stored.extents.items ≡ [] }
     {
         Scan {
             stored: Extents::new(alloc, unit),
@@ -48,7 +54,9 @@ impl Scan {
     }
 
     /// What was found.
-    fn into_stored(self) -> Extents {
+    fn into_stored(self) -> Extents
+        ensures { result ≡ self.stored }
+    {
         self.stored
     }
 
@@ -57,14 +65,18 @@ impl Scan {
         requires { 0 < most }
         ensures some { 0 < result }
         ensures within { result ≤ most }
+        ensures inside { at % self.now.unit + result ≤ self.now.unit }
     {
         most.min(self.unit - at % self.unit)
     }
 
     /// Looks at bytes that are of one unit, and begin at that offset of the disk.
     fn look_in(&mut self, source: &[u8], at: u64) -> Result<(), AllocError>
-        requires { at + length source.now + self.old.unit < 2 ^ 64 }
-        ensures { self.new.unit ≡ self.old.unit }
+        requires small { at + length source.now + self.old.unit < 2 ^ 64 }
+        requires inside { at % self.old.unit + length source.now ≤ self.old.unit }
+        ensures unit { self.new.unit ≡ self.old.unit }
+        ensures sparse { (values : ℕ → Value) → HasValues values at source.now
+            → StoresData self.old.stored values → OnOk result (StoresData self.new.stored values) }
     {
         self.is_amid_data = !is_zero(source);
         if self.is_amid_data {
@@ -76,7 +88,9 @@ impl Scan {
     /// Looks at bytes that begin at that offset of the disk, unit by unit.
     fn look_at(&mut self, source: &[u8], at: u64) -> Result<(), AllocError>
         requires { at + length source.now + self.old.unit < 2 ^ 64 }
-        ensures { self.new.unit ≡ self.old.unit }
+        ensures unit { self.new.unit ≡ self.old.unit }
+        ensures sparse { (values : ℕ → Value) → HasValues values at source.now
+            → StoresData self.old.stored values → OnOk result (StoresData self.new.stored values) }
     {
         let mut done: usize = 0;
         while done < source.len() {
@@ -100,8 +114,13 @@ impl Scan {
     ) -> Result<u64, NewFileError>
         requires keeping { IsKeeping D.view reader.old }
         requires small { at + most + self.old.unit < 2 ^ 64 }
+        ensures image { image_of reader.new ≡ image_of reader.old }
         ensures keeping { IsKeeping D.view reader.new }
         ensures unit { self.new.unit ≡ self.old.unit }
+        ensures sparse { IsTrue (tells_bytes D.view (image_of reader.old))
+            → StoresData self.old.stored (value_at (disk D.view (image_of reader.old)))
+            → OnOk result
+            (StoresData self.new.stored (value_at (disk D.view (image_of reader.old)))) }
         ensures some { IfOk result (λ n. (0 < n) × (n ≤ most)) }
     {
         let count = most.min(buf.len() as u64);
@@ -112,6 +131,33 @@ impl Scan {
         reader.read(alloc, chunk, at)?;
         self.look_at(chunk, at)?;
         Ok(count)
+    }
+
+    /// Whether the first bytes of a unit have data. They are read if those that were looked at last
+    /// have data, and the unit is longer.
+    fn shows_data<D: FormatDriverInstance>(
+        &mut self,
+        alloc: Global,
+        reader: &mut Reader<'_, D>,
+        at: u64,
+        rest: u64,
+        buf: &mut [u8],
+    ) -> Result<bool, NewFileError>
+        requires keeping { IsKeeping D.view reader.old }
+        requires small { at + rest + self.old.unit < 2 ^ 64 }
+        ensures image { image_of reader.new ≡ image_of reader.old }
+        ensures keeping { IsKeeping D.view reader.new }
+        ensures unit { self.new.unit ≡ self.old.unit }
+        ensures sparse { IsTrue (tells_bytes D.view (image_of reader.old))
+            → StoresData self.old.stored (value_at (disk D.view (image_of reader.old)))
+            → OnOk result
+            (StoresData self.new.stored (value_at (disk D.view (image_of reader.old)))) }
+    {
+        if !self.is_amid_data || rest <= FIRST {
+            return Ok(false);
+        }
+        self.read_part(alloc, reader, at, FIRST, buf)?;
+        Ok(self.is_amid_data)
     }
 
     /// Finds out which of the first units of a range are stored, and answers how many bytes that
@@ -130,18 +176,21 @@ impl Scan {
         requires keeping { IsKeeping D.view reader.old }
         requires some { 0 < most }
         requires small { at + most + self.old.unit < 2 ^ 64 }
+        ensures image { image_of reader.new ≡ image_of reader.old }
         ensures keeping { IsKeeping D.view reader.new }
         ensures unit { self.new.unit ≡ self.old.unit }
+        ensures sparse { IsTrue (tells_bytes D.view (image_of reader.old))
+            → StoresData self.old.stored (value_at (disk D.view (image_of reader.old)))
+            → OnOk result
+            (StoresData self.new.stored (value_at (disk D.view (image_of reader.old)))) }
         ensures some { IfOk result (λ n. (0 < n) × (n ≤ most)) }
     {
         let rest = self.left_of_unit(at, most);
-        if self.is_amid_data && rest > FIRST {
-            self.read_part(alloc, reader, at, FIRST, buf)?;
-            if self.is_amid_data {
-                return Ok(rest);
-            }
+        if self.shows_data(alloc, reader, at, rest, buf)? {
+            return Ok(rest);
         }
-        self.read_part(alloc, reader, at, most, buf)
+        let count = self.read_part(alloc, reader, at, most, buf)?;
+        Ok(count)
     }
 
     /// Reads as much of a range as it takes to know which of its units are stored.
@@ -155,8 +204,13 @@ impl Scan {
     ) -> Result<(), NewFileError>
         requires keeping { IsKeeping D.view reader.old }
         requires small { at + count + self.old.unit < 2 ^ 64 }
+        ensures image { image_of reader.new ≡ image_of reader.old }
         ensures keeping { IsKeeping D.view reader.new }
         ensures unit { self.new.unit ≡ self.old.unit }
+        ensures sparse { IsTrue (tells_bytes D.view (image_of reader.old))
+            → StoresData self.old.stored (value_at (disk D.view (image_of reader.old)))
+            → OnOk result
+            (StoresData self.new.stored (value_at (disk D.view (image_of reader.old)))) }
     {
         let mut done: u64 = 0;
         while done < count {
@@ -176,6 +230,8 @@ fn stored_clusters<D: FormatDriverInstance>(
 ) -> Result<Extents, NewFileError>
     requires least { 512 ≤ cluster }
     requires most { cluster ≤ 2097152 }
+    ensures { IsTrue (tells_bytes D.view image.now)
+        → IfOk result (λ e. StoresData e (value_at (disk D.view image.now))) }
 {
     // A disk that is too large for any file is refused before it is read.
     rounded_size(image.size())?;
@@ -211,11 +267,35 @@ pub fn layout_of<D: FormatDriverInstance>(
 ) -> Result<Layout, NewFileError>
     ensures layout { IfOk result (IsLayoutOf format (D.view (driver image.now)).size) }
     ensures names { IfOk result (HasNamesOf backing.entry) }
+    ensures sparse { IsTrue (tells_bytes D.view image.now)
+        → IfOk result (λ l. StoresData l.clusters (value_at (disk D.view image.now))) }
 {
     let cluster = cluster_length(format.cluster_bits)?;
     let stored = stored_clusters(alloc, image, cluster, buf)?;
     let layout = Layout::new(alloc, format, image.size(), stored, backing)?;
     Ok(layout)
+}
+
+/// The clusters of a disk of that size that are stored, where all of them are, or none is.
+fn all_or_none(
+    alloc: Global,
+    cluster: u64,
+    size: u64,
+    is_stored: bool,
+) -> Result<Extents, FormatError>
+    requires least { 512 ≤ cluster }
+    requires most { cluster ≤ 2097152 }
+    ensures none { is_stored ≡ false → IfOk result (λ e. e.extents.items ≡ []) }
+    ensures all { is_stored ≡ true → IfOk result
+        (λ e. (p : ℕ) → p < next_multiple_of size 512 → stores e p ≡ true) }
+{
+    let mut stored = Extents::new(alloc, cluster);
+    if !is_stored {
+        return Ok(stored);
+    }
+    let size = rounded_size(size)?;
+    stored.cover(0, size)?;
+    Ok(stored)
 }
 
 /// Where everything stands in a new file of a disk of that size, of which each cluster is stored,
@@ -234,11 +314,10 @@ pub fn layout_of_size(
     ensures layout { IfOk result (IsLayoutOf format size) }
     ensures names { IfOk result (HasNamesOf backing.entry) }
     ensures none { is_stored ≡ false → IfOk result StoresNothing }
+    ensures all { is_stored ≡ true → IfOk result StoresAll }
 {
     let cluster = cluster_length(format.cluster_bits)?;
-    let mut stored = Extents::new(alloc, cluster);
-    if is_stored {
-        stored.cover(0, rounded_size(size)?)?;
-    }
-    Layout::new(alloc, format, size, stored, backing)
+    let stored = all_or_none(alloc, cluster, size, is_stored)?;
+    let layout = Layout::new(alloc, format, size, stored, backing)?;
+    Ok(layout)
 }

@@ -35,7 +35,7 @@ returns-in-Ok-clause-created g c =
     let planned = c.in_ok-layout.ensures in
     newly_made (λ files. IsNewFile c.in_ok-layout.layout (λ _. Byte 0))
     (λ files file. IsEmptyFile (New.Qcow2 c.args.settings) c.args.below c.args.size file) (contents c.args.host.now)
-    (empty_by c.args.settings c.args.below c.args.size c.in_ok-layout.layout planned.layout planned.names planned.none
+    (empty_by c.args.settings c.args.below c.args.size c.in_ok-layout.layout planned.layout planned.names planned.none planned.all
     (contents c.args.host.now)) c.end.result c.args.making.replace (contents c.end.new.host)
     (around c.args.host.now) (around c.end.new.host) c.args.to.now
     (made_new (λ files. IsNewFile c.in_ok-layout.layout (λ _. Byte 0)) (contents c.args.host.now) (contents c.create.new.self) c.args.to.now (file_length c.in_ok-layout.layout)

@@ -2,7 +2,7 @@
 use Rattle.std.proofs.Common.{ℕ, ◌+◌, ◌*◌, ◌%◌, ap, ◌∙◌}
 use Rattle.std.proofs.Math.Nat.{mod_self}
 use Rattle.imago_qcow2_new.proofs.Whole.{sum_whole, times_whole}
-use Rattle.imago_qcow2_new.proofs.layout.starts_of.Goals as goal
+use Rattle.imago_qcow2_new.proofs.counts.starts_of.Goals as goal
 
 pub returns-clause-blocks_whole : goal.returns-clause-blocks_whole
 returns-clause-blocks_whole c =
