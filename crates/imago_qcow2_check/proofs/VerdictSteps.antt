@@ -1,19 +1,19 @@
 -- What the numbers of faults and leaks say.
 -- SPDX-License-Identifier: MIT
-use Rattle.std.proofs.Common.{◌≡◌, ℕ, zero, suc, ◌+◌, ◌*◌, ◌/◌, ◌<◌, ◌≤◌, ⊎_elim, inl, inr, Bool, true, false, nat_lt, nat_eq, List, arith}
+use Rattle.std.proofs.Common.{◌≡◌, ℕ, zero, suc, ◌+◌, ◌*◌, ◌/◌, ◌<◌, ◌≤◌, ⊎_elim, inl, inr, Bool, true, false, nat_lt, nat_eq, List, refl, arith}
 use Rattle.std.proofs.lemmas.Bool.{cases_lt, cases_eq}
 use Rattle.std.proofs.lemmas.Bool.Decides.{nat_tests}
 use Rattle.imago_qcow2.specs.Numbers.{be64}
 use Rattle.imago_qcow2.specs.Entry.{l1_entry, l1_start}
 use Rattle.imago_qcow2_check.specs.Sums.{total, one_if}
-use Rattle.imago_qcow2_check.specs.Clusters.{Setting, cluster_count}
+use Rattle.imago_qcow2_check.specs.Clusters.{Setting, cluster_count, passes}
 use Rattle.imago_qcow2_check.specs.Entries.{offset_of, names_table, l1_entry_faults, l2_entry_faults, l2_faults, named_faults, table_faults, l1_faults}
 use Rattle.imago_qcow2_check.specs.Counts.{blocks_start, blocks_length, blocks_count, block_entry, count_of}
-use Rattle.imago_qcow2_check.specs.Snapshots.{snapshot_count, snapshots_start, snapshot_at}
+use Rattle.imago_qcow2_check.specs.Snapshots.{snapshot_count, snapshots_start, snapshot_at, snapshots_length}
 use Rattle.imago_qcow2_check.specs.Bitmaps.{bitmaps_extension, bitmaps_faults}
 use Rattle.imago_qcow2_check.specs.Uses.{setting, l1_count, snapshot_faults, snapshots_faults, block_faults, blocks_faults, uses_of}
 use Rattle.imago_qcow2_check.specs.Faults.{shared_fault, is_overused, is_leaked, table_faults_of, entry_faults, overused, leaks_of, corruptions_of, verdict_of}
-use Rattle.imago_qcow2_check.specs.Verdicts.{HasValidEntries, IsFaultless, IsCorrupt, HasLeaksAlone, IsVerdict}
+use Rattle.imago_qcow2_check.specs.Verdicts.{HasTablesInside, HasValidEntries, IsFaultless, IsCorrupt, HasLeaksAlone, IsVerdict}
 use Rattle.imago_qcow2_check.proofs.SumSteps.{total_each}
 
 -- where a sum isn't 0, some value isn't
@@ -34,7 +34,15 @@ less_if a b h = ⊎_elim (λ (l : a < b). l) (λ (l : b ≤ a). let t : nat_lt a
 not_less : (a b : ℕ) → one_if (nat_lt a b) ≡ 0 → b ≤ a
 not_less a b h = ⊎_elim (λ (l : a < b). let t : nat_lt a b ≡ true = grind (arith, nat_tests) in let z : 1 ≡ 0 = rw t at h in absurd (omega (arith, z))) (λ (l : b ≤ a). l) (cases_lt a b)
 
+none_if : (b : Bool) → one_if b ≡ 0 → b ≡ false
+none_if true h = absurd (omega (arith, h))
+none_if false h = refl
+
 module _ (s : Setting) (bytes : List ℕ) (active : Bool) where
+  l1_inside : (start count : ℕ) → l1_faults s bytes active start count ≡ 0 → passes s start (8 * count) ≡ false
+  unfolding l1_faults
+  l1_inside start count e = none_if (passes s start (8 * count)) (omega (arith, e))
+
   l1_valid : (start count i : ℕ) → l1_faults s bytes active start count ≡ 0 → i < count → table_faults s bytes active (be64 bytes (start + 8 * i)) ≡ 0
   unfolding l1_faults
   l1_valid start count i e h = total_each (λ i. table_faults s bytes active (be64 bytes (start + 8 * i))) count i (omega (arith, e)) h
@@ -57,6 +65,14 @@ module _ (s : Setting) (bytes : List ℕ) (active : Bool) where
 snapshots_valid : (s : Setting) (bytes : List ℕ) (start count i : ℕ) → snapshots_faults s bytes start count ≡ 0 → i < count → snapshot_faults s bytes (snapshot_at bytes start i) ≡ 0
 unfolding snapshots_faults
 snapshots_valid s bytes start count i e h = total_each (λ i. snapshot_faults s bytes (snapshot_at bytes start i)) count i (omega (arith, e)) h
+
+snapshots_inside : (s : Setting) (bytes : List ℕ) (start count : ℕ) → snapshots_faults s bytes start count ≡ 0 → passes s start (snapshots_length bytes start count) ≡ false
+unfolding snapshots_faults
+snapshots_inside s bytes start count e = none_if (passes s start (snapshots_length bytes start count)) (omega (arith, e))
+
+blocks_inside : (s : Setting) (bytes : List ℕ) (start size : ℕ) → blocks_faults s bytes start size ≡ 0 → passes s start size ≡ false
+unfolding blocks_faults
+blocks_inside s bytes start size e = none_if (passes s start size) (omega (arith, e))
 
 blocks_valid : (s : Setting) (bytes : List ℕ) (start size i : ℕ) → blocks_faults s bytes start size ≡ 0 → i < size / 8 → block_faults s (be64 bytes (start + 8 * i)) ≡ 0
 unfolding blocks_faults
@@ -87,12 +103,20 @@ module _ (bytes : List ℕ) where
   unfolding entry_faults
   shared_none i e h = total_each (λ i. shared_fault (setting bytes) (uses_of bytes) (block_entry bytes i)) (blocks_count bytes) i (omega (arith, e)) h
 
+  tables_inside : table_faults_of bytes ≡ 0 → HasTablesInside (setting bytes) bytes
+  tables_inside t = record {
+    l1 = l1_inside (setting bytes) bytes true (l1_start bytes) (l1_count bytes) (l1_none t);
+    snapshots = snapshots_inside (setting bytes) bytes (snapshots_start bytes) (snapshot_count bytes) (snapshots_none t);
+    blocks = blocks_inside (setting bytes) bytes (blocks_start bytes) (blocks_length bytes) (blocks_none t);
+  }
+
   valid : entry_faults bytes ≡ 0 → HasValidEntries bytes
   valid e =
       let s = setting bytes in
       let t = tables_none e in
       let each = λ (i : ℕ) (h : i < l1_count bytes). l1_valid s bytes true (l1_start bytes) (l1_count bytes) i (l1_none t) h in
       record {
+        tables = tables_inside t;
         l1 = λ i h. entry_valid s bytes true (l1_entry bytes i) (each i h);
         l2 = λ i j h named k. l2_valid s bytes true (offset_of (l1_entry bytes i)) j (named_valid s bytes true (l1_entry bytes i) (each i h) named) k;
         snapshots = λ i h. snapshots_valid s bytes (snapshots_start bytes) (snapshot_count bytes) i (snapshots_none t) h;

@@ -1,23 +1,35 @@
 -- What a verdict says of a file.
 -- SPDX-License-Identifier: MIT
-use Rattle.std.specs.Prelude.{◌≡◌, ◌<◌, ◌≤◌, ◌⊎◌, ℕ, ◌+◌, ◌*◌, ◌/◌, true, List}
+use Rattle.std.specs.Prelude.{◌≡◌, ◌<◌, ◌≤◌, ◌⊎◌, ℕ, ◌+◌, ◌*◌, ◌/◌, true, false, List}
 use Rattle.imago_qcow2.specs.Numbers.{be64}
-use Rattle.imago_qcow2.specs.Entry.{l1_entry}
+use Rattle.imago_qcow2.specs.Entry.{l1_entry, l1_start}
 use Rattle.imago_qcow2_check.specs.declared.fault.Verdict.{Verdict}
 use Rattle.imago_qcow2_check.specs.declared.fault.Verdict.TheVariants as V
-use Rattle.imago_qcow2_check.specs.Clusters.{cluster_count}
+use Rattle.imago_qcow2_check.specs.Clusters.{Setting, cluster_count, passes}
 use Rattle.imago_qcow2_check.specs.Entries.{offset_of, names_table, l1_entry_faults}
 use Rattle.imago_qcow2_check.specs.Entries.{l2_entry_faults}
-use Rattle.imago_qcow2_check.specs.Counts.{blocks_count, block_entry, count_of}
+use Rattle.imago_qcow2_check.specs.Counts.{blocks_start, blocks_length, blocks_count}
+use Rattle.imago_qcow2_check.specs.Counts.{block_entry, count_of}
 use Rattle.imago_qcow2_check.specs.Snapshots.{snapshot_count, snapshots_start, snapshot_at}
+use Rattle.imago_qcow2_check.specs.Snapshots.{snapshots_length}
 use Rattle.imago_qcow2_check.specs.Bitmaps.{bitmaps_extension, bitmaps_faults}
 use Rattle.imago_qcow2_check.specs.Uses.{setting, l1_count, snapshot_faults, block_faults, uses_of}
 use Rattle.imago_qcow2_check.specs.Faults.{shared_fault, entry_faults}
 
--- Every entry is valid: those of the L1 table, and of each L2 table that it names; those of each
--- snapshot; those of bitmaps that are valid; and those of the table of blocks of counts, whose blocks
--- are used for nothing else.
+-- The tables that the header names lie in the file, up to the end of its last cluster: the L1 table,
+-- the table of snapshots, and the table of blocks of counts.
+pub record HasTablesInside (s : Setting) (bytes : List ℕ) : Type 0 where
+  pub l1 : passes s (l1_start bytes) (8 * l1_count bytes) ≡ false
+  pub snapshots : passes s (snapshots_start bytes)
+      (snapshots_length bytes (snapshots_start bytes) (snapshot_count bytes)) ≡ false
+  pub blocks : passes s (blocks_start bytes) (blocks_length bytes) ≡ false
+
+-- Every entry is valid. The tables that the header names lie in the file, and so are valid: the
+-- entries of the L1 table, and of each L2 table that it names; those of each snapshot; those of
+-- bitmaps that are valid; and those of the table of blocks of counts, whose blocks are used for
+-- nothing else.
 pub record HasValidEntries (bytes : List ℕ) : Type 0 where
+  pub tables : HasTablesInside (setting bytes) bytes
   pub l1 : (i : ℕ) → i < l1_count bytes
       → l1_entry_faults (setting bytes) true (l1_entry bytes i) ≡ 0
   pub l2 : (i j : ℕ) → i < l1_count bytes

@@ -1,6 +1,6 @@
 -- The entries of a new file are valid.
 -- SPDX-License-Identifier: MIT
-use Rattle.std.proofs.Common.{◌≡◌, ℕ, ◌+◌, ◌*◌, ◌/◌, ◌%◌, ◌<◌, ◌≤◌, ⊎_elim, true, false, nat_eq, nat_lt, List, length, refl, sym, ap, subst, ◌∙◌, arith}
+use Rattle.std.proofs.Common.{◌≡◌, ℕ, ◌+◌, ◌-◌, ◌*◌, ◌/◌, ◌%◌, ◌<◌, ◌≤◌, ⊎_elim, Bool, true, false, ◌&&◌, not, nat_eq, nat_lt, List, length, refl, sym, ap, subst, ◌∙◌, arith}
 use Rattle.std.specs.Int.{div_ceil}
 use Rattle.std.proofs.lemmas.Bool.{cases_lt}
 use Rattle.std.proofs.lemmas.Nat.{div-add-mod', mul-le}
@@ -9,22 +9,23 @@ use Rattle.imago_drivers.specs.Place.{Value}
 use Rattle.imago_qcow2.specs.declared.entry.L2Table.{L2Table}
 use Rattle.imago_qcow2.specs.declared.entry.GuestCluster.{GuestCluster}
 use Rattle.imago_qcow2.specs.Numbers.{be64}
-use Rattle.imago_qcow2.specs.Entry.{version_of, cluster_length, l1_entry, table_in_entry}
+use Rattle.imago_qcow2.specs.Entry.{version_of, cluster_length, l1_start, l1_entry, table_in_entry}
 use Rattle.imago_qcow2_check.specs.Sums.{one_if}
 use Rattle.imago_qcow2_check.specs.Clusters.{Setting, cluster_count, passes}
 use Rattle.imago_qcow2_check.specs.Entries.{offset_of, copied_fault, cluster_faults, invalid_table, l1_entry_faults, l2_entry_faults, names_table}
-use Rattle.imago_qcow2_check.specs.Counts.{block_entry, count_of}
+use Rattle.imago_qcow2_check.specs.Counts.{blocks_start, blocks_length, block_entry, count_of}
+use Rattle.imago_qcow2_check.specs.Snapshots.{snapshot_count, snapshots_start, snapshots_end, snapshots_length}
 use Rattle.imago_qcow2_check.specs.Faults.{shared_fault}
 use Rattle.imago_qcow2_check.specs.Bitmaps.{bitmaps_extension, bitmaps_faults}
-use Rattle.imago_qcow2_check.specs.Uses.{setting, is_once, block_faults, uses_of}
-use Rattle.imago_qcow2_check.specs.Verdicts.{IsFaultless}
+use Rattle.imago_qcow2_check.specs.Uses.{setting, is_once, l1_count, block_faults, uses_of}
+use Rattle.imago_qcow2_check.specs.Verdicts.{HasTablesInside, IsFaultless}
 use Rattle.imago_qcow2_new.specs.declared.layout.Layout.{Layout}
 use Rattle.imago_qcow2_new.specs.Layout.{table_word, l1_word}
 use Rattle.imago_qcow2_new.specs.Image.{IsWritten}
 use Rattle.imago_qcow2_new.proofs.Whole.{zero_whole}
 use Rattle.imago_qcow2_new.proofs.EntrySteps.{no_table, no_cluster, zero_known}
-use Rattle.imago_qcow2_new.proofs.Reading.{either, version_three, least, cluster_is, fourth_word, l1_is, table_says, table_there}
-use Rattle.imago_qcow2_new.proofs.Counting.{counts_is, count_entries, block_there, block_none, counted}
+use Rattle.imago_qcow2_new.proofs.Reading.{either, version_three, least, cluster_is, start_is, fourth_word, l1_is, table_says, table_there}
+use Rattle.imago_qcow2_new.proofs.Counting.{counts_is, counts_length_is, count_entries, block_there, block_none, counted}
 use Rattle.imago_qcow2_new.proofs.Uses.{by, setting_is, positive, end_at, end_is, clusters_are, count_is, block_whole, block_some, block_inside, no_snapshots, no_bitmaps, table_spot, cluster_spot, table_inside, table_offset, table_some, data_inside, data_some, data_says, data_offset, entry_read, names_none, used}
 
 product_below : (unit x : ℕ) → x / unit * unit ≤ x
@@ -34,6 +35,10 @@ product_below unit x = let f : x / unit * unit + x % unit ≡ x = div-add-mod' x
 stored_faults : (s : Setting) (d entry : ℕ) → offset_of entry ≡ d → nat_eq d 0 ≡ false → passes s d s.cluster ≡ false → copied_fault s true d entry ≡ 0
     → cluster_faults s true entry (GuestCluster.Stored d) ≡ 0
 stored_faults s d entry o some inside none = rw (o, some, inside, none) refl
+
+and_none : (b : Bool) → (b && false) ≡ false
+and_none true = refl
+and_none false = refl
 
 module _ (l : Layout) (values : ℕ → Value) (file : List ℕ) (is : IsWritten l values file) where
   -- a cluster that begins in the file has the count 1
@@ -68,6 +73,37 @@ module _ (l : Layout) (values : ℕ → Value) (file : List ℕ) (is : IsWritten
       let some : nat_eq l.cluster 0 ≡ false = grind (arith, nat_tests, p) in
       let t : nat_lt l.end (at + l.cluster) ≡ false = grind (arith, nat_tests, inside) in
       rw (some, k, t) refl
+
+  ends_inside : (at count : ℕ) → at + count ≤ l.end → passes (by l values file is) at count ≡ false
+  unfolding passes
+  ends_inside at count inside =
+      let k = count_is l values file is in
+      let t : nat_lt l.end (at + count) ≡ false = grind (arith, nat_tests, inside) in
+      rw (k, t) (and_none (not (nat_eq count 0)))
+
+  no_snapshot_bytes : (start : ℕ) → passes (by l values file is) start (snapshots_length file start 0) ≡ false
+  unfolding passes snapshots_end
+  no_snapshot_bytes start =
+      let none : start - start ≡ 0 = omega arith in
+      rw none refl
+
+  -- the tables that the header names lie in the file
+  tables_inside : HasTablesInside (by l values file is) file
+  tables_inside = record {
+    l1 =
+        let a = start_is l values file is in
+        let b = (fourth_word l values file is).1 in
+        ends_inside (l1_start file) (8 * l1_count file) (omega (arith, a, b, l.tables_behind, l.data_at, l.end_at));
+    snapshots =
+        let z = no_snapshots l values file is in
+        ap (λ x. passes (by l values file is) (snapshots_start file) (snapshots_length file (snapshots_start file) x)) z ∙ no_snapshot_bytes (snapshots_start file);
+    blocks =
+        let a = counts_is l values file is in
+        let b = counts_length_is l values file is in
+        let k = cluster_is l values file is in
+        let e : blocks_length file ≡ l.header.counts_clusters * l.cluster = ap (λ x. x * cluster_length file) b ∙ ap (λ x. l.header.counts_clusters * x) k in
+        ends_inside (blocks_start file) (blocks_length file) (omega (arith, a, e, l.blocks_at, l.l1_at, l.tables_behind, l.data_at, l.end_at));
+  }
 
   -- an entry that names something, whose copied bit is set
   copied : (t entry : ℕ) → entry ≡ 9223372036854775808 + t → nat_eq t 0 ≡ false → t + l.cluster ≤ l.end → copied_fault (by l values file is) true t entry ≡ 0
@@ -172,6 +208,7 @@ module _ (l : Layout) (values : ℕ → Value) (file : List ℕ) (is : IsWritten
   pub faultless : IsFaultless file
   faultless = record {
     entries = record {
+      tables = subst (λ (s : Setting). HasTablesInside s file) (sym (setting_is l values file is)) tables_inside;
       l1 = λ i lt. ap (λ s. l1_entry_faults s true (l1_entry file i)) (setting_is l values file is)
           ∙ (let k = (fourth_word l values file is).1 in let inside : i < l.header.l1_count = omega (arith, lt, k) in ap (λ x. l1_entry_faults (by l values file is) true x) (l1_is l values file is i inside) ∙ l1_sound i inside);
       l2 = λ i j lt names less.
