@@ -529,7 +529,10 @@ fn check_limits(rt: &impl Abort, alloc: Global) -> Result<(), Error> {
     let unsupported = Err(Error::Unsupported);
     assert_eq!(rt; give_within(alloc, &PACKED, 2048, 520)?, Ok(()));
     assert_eq!(rt; give_within(alloc, &PACKED, 2048, 519)?, unsupported);
-    assert_eq!(rt; give_within(alloc, &LONG_L1, 1 << 26, 1 << 40)?, unsupported);
+    assert_eq!(rt;
+        give_within(alloc, &LONG_L1, 1 << 26, 1 << 40)?,
+        unsupported
+    );
     assert_eq!(rt; give_within(alloc, &FULL_L1, 1 << 26, 1 << 40)?, Ok(()));
     Ok(())
 }

@@ -35,9 +35,9 @@ module _ (e : Extents) (c table : ℕ) (least : 512 ≤ c) where
       let product : count ≡ count / c * c = as_product c count rest in
       let place : (table * (c / 8) + count / c) * c ≡ table * (c / 8 * c) + count = entry_place table (count / c) (c / 8) c ∙ ap (λ x. table * (c / 8 * c) + x) (sym product) in
       let less : count / c < c / 8 = ⊎_elim
-          (λ (lt : count / c < c / 8). lt)
-          (λ (ge : c / 8 ≤ count / c). let m : c / 8 * c ≤ count / c * c = mul-le (c / 8) c (count / c) c ge (omega arith) in absurd (omega (arith, m, product, near)))
-          (cases_lt (count / c) (c / 8)) in
+      (λ (lt : count / c < c / 8). lt)
+      (λ (ge : c / 8 ≤ count / c). let m : c / 8 * c ≤ count / c * c = mul-le (c / 8) c (count / c) c ge (omega arith) in absurd (omega (arith, m, product, near)))
+      (cases_lt (count / c) (c / 8)) in
       (count / c, less, subst (λ (x : ℕ). stores e x ≡ true) (sym place) st)
 
 -- a table that is made stored behind others
