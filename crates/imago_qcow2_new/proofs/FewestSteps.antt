@@ -1,6 +1,6 @@
 -- As few reference counts as count all clusters.
 -- SPDX-License-Identifier: MIT
-use Rattle.std.proofs.Common.{◌≡◌, ℕ, ◌+◌, ◌-◌, ◌*◌, ◌/◌, ◌<◌, ◌≤◌, refl, arith}
+use Rattle.std.proofs.Common.{◌≡◌, ℕ, ◌+◌, ◌-◌, ◌*◌, ◌/◌, ◌<◌, ◌≤◌, ap, arith}
 use Rattle.std.specs.Int.{div_ceil}
 use Rattle.std.proofs.lemmas.Nat.{mul-le}
 use Rattle.imago_qcow2.proofs.HeldSteps.{enough}
@@ -20,7 +20,7 @@ module _ (l : Layout) (few : HasFewestCounts l) where
   beside t b (named, counts) =
       let x = least in
       let e : l.cluster / 2 ≡ per_block l.cluster + 1 = omega (arith, x) in
-      let f : b * (l.cluster / 2) ≡ b * (per_block l.cluster + 1) = rw e refl in
+      let f : b * (l.cluster / 2) ≡ b * (per_block l.cluster + 1) = ap (λ (n : ℕ). b * n) e in
       let g : b * (per_block l.cluster + 1) ≡ b * per_block l.cluster + b = omega arith in
       omega (arith, counts, f, g)
 
@@ -32,7 +32,7 @@ module _ (l : Layout) (few : HasFewestCounts l) where
       let n : per_block l.cluster * (l.cluster / 8) ≡ per_table l.cluster + 1 = (let q : 1 * 1 ≤ per_block l.cluster * (l.cluster / 8) = mul-le 1 1 (per_block l.cluster) (l.cluster / 8) (omega (arith, p)) (omega (arith, x)) in omega (arith, q)) in
       let m : b * per_block l.cluster ≤ t * (l.cluster / 8) * per_block l.cluster = mul-le b (per_block l.cluster) (t * (l.cluster / 8)) (per_block l.cluster) all.0 (omega arith) in
       let e : t * (l.cluster / 8) * per_block l.cluster ≡ t * (per_block l.cluster * (l.cluster / 8)) = omega arith in
-      let f : t * (per_block l.cluster * (l.cluster / 8)) ≡ t * (per_table l.cluster + 1) = rw n refl in
+      let f : t * (per_block l.cluster * (l.cluster / 8)) ≡ t * (per_table l.cluster + 1) = ap (λ (k : ℕ). t * k) n in
       let g : t * (per_table l.cluster + 1) ≡ t * per_table l.cluster + t = omega arith in
       omega (arith, near, m, e, f, g)
 
