@@ -9,7 +9,8 @@ use thiserror::Error;
 #[derive(Clone, Copy, Debug, Error)]
 pub enum ClusterFault {
     /// It is compressed with zstd.
-    #[error("is compressed with zstd, which isn't offered; qemu-img convert writes it uncompressed")]
+    #[error("is compressed with zstd, which isn't offered; \
+        qemu-img convert -O qcow2 FILE PLAIN makes a plain image of it")]
     Zstd,
     /// Its stream has that fault.
     #[error("can't be decoded: {0}; use an intact copy of the file")]

@@ -334,21 +334,21 @@ static ZSTD: [Row; 6] = [
         1,
         "",
         "imago-img: \"zstd.qcow2\": the cluster at 512 of the disk is compressed with zstd, which \
-         isn't offered; qemu-img convert writes it uncompressed\n",
+         isn't offered; qemu-img convert -O qcow2 FILE PLAIN makes a plain image of it\n",
     ),
     (
         "convert over_zstd.qcow2 out.raw",
         1,
         "",
         "imago-img: \"zstd.qcow2\": the cluster at 512 of the disk is compressed with zstd, which \
-         isn't offered; qemu-img convert writes it uncompressed\n",
+         isn't offered; qemu-img convert -O qcow2 FILE PLAIN makes a plain image of it\n",
     ),
     (
         "compare zeroes.raw over_zstd.qcow2",
         2,
         "",
         "imago-img: \"zstd.qcow2\": the cluster at 512 of the disk is compressed with zstd, which \
-         isn't offered; qemu-img convert writes it uncompressed\n",
+         isn't offered; qemu-img convert -O qcow2 FILE PLAIN makes a plain image of it\n",
     ),
 ];
 
