@@ -267,5 +267,6 @@ class Disk(io.RawIOBase):
 
 
 def open(path, format=UNKNOWN, others=beside, strict=False, tables=USUAL_TABLES):
-    """Opens the image of a path, with the files that it names as `others` lets them through."""
-    return Disk(path, format, others, strict)
+    """Opens the image of a path, with the files that it names as `others` lets them through. The
+    tables of each qcow2 file may have that many bytes."""
+    return Disk(path, format, others, strict, tables)
