@@ -1,6 +1,10 @@
 -- SPDX-License-Identifier: MIT
+use Rattle.std.proofs.Common.{◌≡◌, ◌∙◌, Option, Result, Ok, Err, OnErr, ap}
+use Rattle.std.specs.Prelude.{option_map}
 use Rattle.imago_qcow2_new.specs.Layout.{file_length}
+use Rattle.imago_img_files.specs.Files.{Around, begun, ended}
 use Rattle.imago_img_disks.specs.NewFiles.{IsCopyBy, IsQcow2Copy}
+use Rattle.imago_img_disks.proofs.Disks.{begun_ended}
 use Rattle.imago_img_disks.proofs.NewFiles.{copy_in, made_as, made_new, newly_made, whole_new}
 use Rattle.imago_img_disks.proofs.new_qcow2.convert_beside.Goals as goal
 
@@ -46,3 +50,12 @@ returns-in-Ok-clause-converted g c =
     c.args.making.replace (contents c.end.new.host) (around c.args.host.now) (around c.create.new.self)
     (around c.end.new.host) created.begun created.free c.end.result c.end.ensures.done c.end.ensures.made
     c.end.ensures.there)
+
+none_left : {A E : Type 0} (r : Result A E) (now mid before : Option Around) → mid ≡ option_map begun before → OnErr r (now ≡ option_map ended mid) → OnErr r (now ≡ before)
+none_left (Ok x) now mid before begins h = tt
+none_left (Err e) now mid before begins h = h ∙ ap (option_map ended) begins ∙ begun_ended before
+
+pub returns-in-Ok-clause-refused : goal.returns-in-Ok-clause-refused
+returns-in-Ok-clause-refused g c =
+    let around = g.H.Host.around in
+    none_left c.end.result (around c.end.new.host) (around c.create.new.self) (around c.args.host.now) c.in-Ok.ensures.begun c.end.ensures.gone
