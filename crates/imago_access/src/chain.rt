@@ -110,6 +110,8 @@ impl<D: FormatDriverInstance> FormatAccess<D> {
     ///
     /// It takes no memory. [`Error::InvalidData`] and [`Error::NoAccess`] are answered for an
     /// offset that may not be read. A refusal is what the driver answered for that range.
+    // Where layers are gone through one by one, a call for each of them would take a third more time.
+    #[inline(always)]
     pub fn get_shallow_mapping(
         &self,
         offset: u64,
@@ -136,6 +138,7 @@ impl<D: FormatDriverInstance> FormatAccess<D> {
     }
 
     /// The same, with the end going on to the end of the range.
+    #[inline(always)]
     fn map_part(&self, offset: u64, max_length: u64) -> Result<(ShallowMapping, u64), Error>
         ensures part { IfOk result
             (λ r. IsPart (D.view (driver self.now)).place offset max_length r.0 r.1) }
@@ -159,6 +162,7 @@ impl<D: FormatDriverInstance> FormatAccess<D> {
 
     /// Follows a range down to the layer that its first bytes stand in, with that driver's mapping
     /// of them. It asks each driver for at least one byte.
+    #[inline(never)]
     pub(crate) fn descend(
         &self,
         offset: u64,

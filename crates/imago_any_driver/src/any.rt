@@ -175,6 +175,7 @@ impl<S: Storage> FormatDriverInstance for AnyDriver<S> {
         dispatch!(self, driver => driver.storage(index))
     }
 
+    #[inline(always)]
     fn get_mapping(&self, offset: u64, max_length: u64) -> Result<(ShallowMapping, u64), Error> {
         dispatch!(self, driver => driver.get_mapping(offset, max_length))
     }

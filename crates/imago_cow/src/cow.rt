@@ -312,6 +312,7 @@ impl<S: Storage> FormatDriverInstance for Cow<S> {
         }
     }
 
+    #[inline(always)]
     fn get_mapping(&self, offset: u64, max_length: u64) -> Result<(ShallowMapping, u64), Error> {
         Ok(map_place(&self.table, self.block, self.size, offset, max_length))
     }

@@ -1,4 +1,4 @@
--- What a gate keeps of the files that it looked at, so that each path is looked at once.
+-- What a gate keeps of the first files that it looked at, so that it needn't look at them again.
 -- SPDX-License-Identifier: MIT
 use Rattle.std.specs.Prelude.{◌≡◌, ◌⊎◌, ℕ, List, ◌++◌, Option, Some, None, IfSome, IsSome}
 use Rattle.std.specs.Prelude.{String, length}

@@ -40,6 +40,10 @@ pub fn folder_of(path: &str) -> &str
     }
 }
 
+/// Of how many paths a gate keeps what it found. A descriptor names few files again and again, or
+/// each of many files once, and a look in a long list of these would cost more than it saves.
+const MOST_KEPT: usize = 64;
+
 /// What an image names its files as.
 #[derive(Clone, Copy)]
 pub enum Named {
@@ -66,7 +70,7 @@ pub struct FolderGate<'a, 'b, H: Files> {
     folder: Folder,
     /// The path of the last file that wasn't handed out.
     refused: Option<String>,
-    /// What the files of the paths are that were let through and looked at once.
+    /// What the files of the first [`MOST_KEPT`] paths are that were let through and looked at.
     looked: BTreeMap<String, FileStatus>,
     ghost looked_at: { AreLookedAt (H.contents (door_host door)) (H.statuses (door_host door))
         (H.real_paths (door_host door)) (door_files door) (door_image door) (bounds_in folder)
@@ -188,9 +192,9 @@ impl<'a, 'b, H: Files> FolderGate<'a, 'b, H> {
         }
     }
 
-    /// Looks at the file of that path as [`look`](Self::look) does, and at each path once: what is
-    /// found is kept, and a file that is asked for again is handed out as it was found. What is
-    /// refused isn't kept.
+    /// Looks at the file of that path as [`look`](Self::look) does, and at each of the first 64 paths
+    /// once: what is found is kept, and a file that is asked for again is handed out as it was found.
+    /// What is refused isn't kept.
     pub fn look_once(&mut self, path: &str) -> Result<PathFile<'a, H>, OpenError>
         ensures told { IfOk result (λ f. IfSome (H.contents (gate_host self.old))
             (λ files. ⟦<PathFile<'a, H> as HostFile>⟧.contents f ≡ Some (files path.now))) }
@@ -222,7 +226,7 @@ impl<'a, 'b, H: Files> FolderGate<'a, 'b, H> {
         Ok(file)
     }
 
-    /// Keeps what the file of a path is, if there is memory for it.
+    /// Keeps what the file of a path is, if there is room for it.
     fn keep(&mut self, path: &str, status: FileStatus)
         requires { IsLookedAt (H.contents (gate_host self.old)) (H.statuses (gate_host self.old))
             (H.real_paths (gate_host self.old)) (gate_files self.old) (gate_image self.old)
@@ -273,7 +277,7 @@ impl<'a, 'b, H: Files> FolderGate<'a, 'b, H> {
     }
 }
 
-/// Keeps what the file of a path is, if there is memory for it.
+/// Keeps what the file of a path is, if few are kept and there is memory for it.
 fn keep_status(
     alloc: Global,
     looked: &mut BTreeMap<String, FileStatus>,
@@ -282,6 +286,9 @@ fn keep_status(
 )
     ensures { KeepsBeside looked.old looked.new path.now status }
 {
+    if looked.len() >= MOST_KEPT {
+        return;
+    }
     if let Ok(key) = String::from_str(alloc, path) {
         let _ = looked.insert(key, status);
     }
