@@ -2,7 +2,8 @@
 //! Files with faults, and what is said of each.
 //!
 //! Expected verdicts and numbers are those of `qemu-img check`, version 7.2, on the same files; only a
-//! file whose entry of a bitmap's table is invalid it doesn't open at all.
+//! file whose entry of a bitmap's table is invalid it doesn't open at all, and where a snapshot has
+//! too much extra data it reads none of them.
 use imago_qcow2::fault::HeaderFault;
 use imago_qcow2_check::check::{Limits, Report, check};
 use imago_qcow2_check::fault::{CheckError, Verdict};
@@ -80,7 +81,7 @@ struct Row {
     leaks: u64,
 }
 
-static ROWS: [Row; 37] = [
+static ROWS: [Row; 40] = [
     Row {
         name: "an image without a fault",
         changes: &[],
@@ -292,6 +293,68 @@ static ROWS: [Row; 37] = [
         verdict: Verdict::Corrupt,
         corruptions: 1,
         leaks: 0,
+    },
+    Row {
+        name: "a snapshot with 1024 bytes of extra data",
+        changes: &[
+            (0x3f, 0x1),
+            (0x46, 0xa),
+            (0x800, 0x0),
+            (0x806, 0x0),
+            (0xa06, 0x6),
+            (0xa0b, 0x1),
+            (0xa26, 0x4),
+            (0x407, 0x2),
+            (0x409, 0x2),
+            (0x600, 0x0),
+            (0x40d, 0x1),
+            (0x40f, 0x1),
+        ],
+        length: 4096,
+        verdict: Verdict::Faultless,
+        corruptions: 0,
+        leaks: 0,
+    },
+    Row {
+        name: "a snapshot with more extra data",
+        changes: &[
+            (0x3f, 0x1),
+            (0x46, 0xa),
+            (0x800, 0x0),
+            (0x806, 0x0),
+            (0xa06, 0x6),
+            (0xa0b, 0x1),
+            (0xa26, 0x4),
+            (0xa27, 0x1),
+            (0x407, 0x2),
+            (0x409, 0x2),
+            (0x600, 0x0),
+            (0x40d, 0x1),
+            (0x40f, 0x1),
+        ],
+        length: 4096,
+        verdict: Verdict::Corrupt,
+        corruptions: 1,
+        leaks: 0,
+    },
+    Row {
+        name: "a snapshot with 64 MiB of extra data",
+        changes: &[
+            (0x3f, 0x1),
+            (0x46, 0xa),
+            (0x800, 0x0),
+            (0x806, 0x0),
+            (0xa06, 0x6),
+            (0xa0b, 0x1),
+            (0xa24, 0x4),
+            (0x407, 0x2),
+            (0x409, 0x2),
+            (0x600, 0x0),
+        ],
+        length: LENGTH,
+        verdict: Verdict::Corrupt,
+        corruptions: 3,
+        leaks: 1,
     },
     Row {
         name: "a bitmap",

@@ -9,7 +9,7 @@ use Rattle.imago_qcow2_check.specs.Sums.{total, one_if}
 use Rattle.imago_qcow2_check.specs.Clusters.{Setting, cluster_count, passes}
 use Rattle.imago_qcow2_check.specs.Entries.{offset_of, names_table, l1_entry_faults, l2_entry_faults, l2_faults, named_faults, table_faults, l1_faults}
 use Rattle.imago_qcow2_check.specs.Counts.{blocks_start, blocks_length, blocks_count, block_entry, count_of}
-use Rattle.imago_qcow2_check.specs.Snapshots.{snapshot_count, snapshots_start, snapshot_at, snapshots_length}
+use Rattle.imago_qcow2_check.specs.Snapshots.{snapshot_count, snapshots_start, snapshot_at, snapshots_length, is_long_table}
 use Rattle.imago_qcow2_check.specs.Bitmaps.{bitmaps_extension, bitmaps_faults}
 use Rattle.imago_qcow2_check.specs.Uses.{setting, l1_count, snapshot_faults, snapshots_faults, block_faults, blocks_faults, uses_of}
 use Rattle.imago_qcow2_check.specs.Faults.{shared_fault, is_overused, is_leaked, table_faults_of, entry_faults, overused, leaks_of, corruptions_of, verdict_of}
@@ -70,6 +70,10 @@ snapshots_inside : (s : Setting) (bytes : List ℕ) (start count : ℕ) → snap
 unfolding snapshots_faults
 snapshots_inside s bytes start count e = none_if (passes s start (snapshots_length bytes start count)) (omega (arith, e))
 
+snapshots_short : (s : Setting) (bytes : List ℕ) (start count : ℕ) → snapshots_faults s bytes start count ≡ 0 → is_long_table (snapshots_length bytes start count) ≡ false
+unfolding snapshots_faults
+snapshots_short s bytes start count e = none_if (is_long_table (snapshots_length bytes start count)) (omega (arith, e))
+
 blocks_inside : (s : Setting) (bytes : List ℕ) (start size : ℕ) → blocks_faults s bytes start size ≡ 0 → passes s start size ≡ false
 unfolding blocks_faults
 blocks_inside s bytes start size e = none_if (passes s start size) (omega (arith, e))
@@ -120,6 +124,7 @@ module _ (bytes : List ℕ) where
         l1 = λ i h. entry_valid s bytes true (l1_entry bytes i) (each i h);
         l2 = λ i j h named k. l2_valid s bytes true (offset_of (l1_entry bytes i)) j (named_valid s bytes true (l1_entry bytes i) (each i h) named) k;
         snapshots = λ i h. snapshots_valid s bytes (snapshots_start bytes) (snapshot_count bytes) i (snapshots_none t) h;
+        short = snapshots_short s bytes (snapshots_start bytes) (snapshot_count bytes) (snapshots_none t);
         bitmaps = bitmaps_none t;
         blocks = λ i h. blocks_valid s bytes (blocks_start bytes) (blocks_length bytes) i (blocks_none t) h;
         apart = λ i h. shared_none i e h;

@@ -33,6 +33,18 @@ snapshot_at bytes start i = next_multiple_of (snapshots_end bytes start i) 8
 abbrev pub snapshots_length : List ℕ → ℕ → ℕ → ℕ
 snapshots_length bytes start count = snapshots_end bytes start count - start
 
+-- how many bytes a snapshot's entry has beside the first 40, its id and its name: QEMU reads an entry
+-- with 1,024 of them at most
+abbrev pub snapshot_extra : List ℕ → ℕ → ℕ
+snapshot_extra bytes at = be32 bytes (at + 36)
+
+abbrev pub has_long_extra : List ℕ → ℕ → Bool
+has_long_extra bytes at = nat_lt 1024 (snapshot_extra bytes at)
+
+-- a table of snapshots has more bytes than QEMU reads: 64 MiB
+abbrev pub is_long_table : ℕ → Bool
+is_long_table size = nat_lt 67108864 size
+
 -- the L1 table of the snapshot that begins there
 abbrev pub snapshot_l1 : List ℕ → ℕ → ℕ
 snapshot_l1 bytes at = be64 bytes at

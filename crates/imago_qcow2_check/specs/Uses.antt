@@ -11,7 +11,7 @@ use Rattle.imago_qcow2_check.specs.Entries.{l1_uses, l1_faults}
 use Rattle.imago_qcow2_check.specs.Counts.{blocks_start, blocks_length, count_of}
 use Rattle.imago_qcow2_check.specs.Snapshots.{snapshot_count, snapshots_start, snapshot_at}
 use Rattle.imago_qcow2_check.specs.Snapshots.{snapshots_length, snapshot_l1, snapshot_l1_count}
-use Rattle.imago_qcow2_check.specs.Snapshots.{is_invalid_l1}
+use Rattle.imago_qcow2_check.specs.Snapshots.{is_invalid_l1, has_long_extra, is_long_table}
 use Rattle.imago_qcow2_check.specs.Bitmaps.{bitmaps_extension, bitmaps_uses}
 
 -- cluster n is one of the file's, and has the reference count 1
@@ -37,9 +37,14 @@ unfoldable pub snapshot_uses : Setting → List ℕ → ℕ → ℕ → ℕ
 snapshot_uses s bytes at n = if is_invalid_l1 s.cluster bytes at then 0
     else l1_uses s bytes (snapshot_l1 bytes at) (snapshot_l1_count bytes at) n
 
-unfoldable pub snapshot_faults : Setting → List ℕ → ℕ → ℕ
-snapshot_faults s bytes at = if is_invalid_l1 s.cluster bytes at then 1
+unfoldable pub snapshot_tables_faults : Setting → List ℕ → ℕ → ℕ
+snapshot_tables_faults s bytes at = if is_invalid_l1 s.cluster bytes at then 1
     else l1_faults s bytes false (snapshot_l1 bytes at) (snapshot_l1_count bytes at)
+
+-- the faults of a snapshot: those, and that its entry has too much extra data
+unfoldable pub snapshot_faults : Setting → List ℕ → ℕ → ℕ
+snapshot_faults s bytes at =
+    one_if (has_long_extra bytes at) + snapshot_tables_faults s bytes at
 
 -- A block of counts that an entry of the table of blocks names: how many bytes it has, none where
 -- the entry is invalid or names none.
@@ -67,6 +72,7 @@ unfoldable pub snapshots_faults : Setting → List ℕ → ℕ → ℕ → ℕ
 snapshots_faults s bytes start count =
     total (λ i. snapshot_faults s bytes (snapshot_at bytes start i)) count
     + past_fault s start (snapshots_length bytes start count)
+    + one_if (is_long_table (snapshots_length bytes start count))
 
 unfoldable pub blocks_uses : Setting → List ℕ → ℕ → ℕ → ℕ → ℕ
 blocks_uses s bytes start size n = use_of s start size n

@@ -11,7 +11,7 @@ use Rattle.imago_qcow2_check.specs.Entries.{l2_entry_faults}
 use Rattle.imago_qcow2_check.specs.Counts.{blocks_start, blocks_length, blocks_count}
 use Rattle.imago_qcow2_check.specs.Counts.{block_entry, count_of}
 use Rattle.imago_qcow2_check.specs.Snapshots.{snapshot_count, snapshots_start, snapshot_at}
-use Rattle.imago_qcow2_check.specs.Snapshots.{snapshots_length}
+use Rattle.imago_qcow2_check.specs.Snapshots.{snapshots_length, is_long_table}
 use Rattle.imago_qcow2_check.specs.Bitmaps.{bitmaps_extension, bitmaps_faults}
 use Rattle.imago_qcow2_check.specs.Uses.{setting, l1_count, snapshot_faults, block_faults, uses_of}
 use Rattle.imago_qcow2_check.specs.Faults.{shared_fault, entry_faults}
@@ -27,7 +27,7 @@ pub record HasTablesInside (s : Setting) (bytes : List ℕ) : Type 0 where
 -- Every entry is valid. The tables that the header names lie in the file, and so are valid: the
 -- entries of the L1 table, and of each L2 table that it names; those of each snapshot; those of
 -- bitmaps that are valid; and those of the table of blocks of counts, whose blocks are used for
--- nothing else.
+-- nothing else. The table of snapshots isn't longer than QEMU reads.
 pub record HasValidEntries (bytes : List ℕ) : Type 0 where
   pub tables : HasTablesInside (setting bytes) bytes
   pub l1 : (i : ℕ) → i < l1_count bytes
@@ -38,6 +38,8 @@ pub record HasValidEntries (bytes : List ℕ) : Type 0 where
       ≡ 0
   pub snapshots : (i : ℕ) → i < snapshot_count bytes
       → snapshot_faults (setting bytes) bytes (snapshot_at bytes (snapshots_start bytes) i) ≡ 0
+  pub short : is_long_table
+      (snapshots_length bytes (snapshots_start bytes) (snapshot_count bytes)) ≡ false
   pub bitmaps : bitmaps_faults (setting bytes) bytes (bitmaps_extension bytes) ≡ 0
   pub blocks : (i : ℕ) → i < blocks_count bytes
       → block_faults (setting bytes) (block_entry bytes i) ≡ 0

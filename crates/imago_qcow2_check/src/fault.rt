@@ -58,6 +58,21 @@ pub enum Fault {
         /// Where the entry stands.
         at: u64,
     },
+    /// The entry of the table of snapshots at that offset has more extra data than QEMU reads: 1024
+    /// bytes.
+    LongExtra {
+        /// Where the entry stands.
+        at: u64,
+        /// How many bytes of extra data it has.
+        length: u32,
+    },
+    /// The table of snapshots is longer than QEMU reads: 64 MiB.
+    LongSnapshots {
+        /// Where the table begins.
+        start: u64,
+        /// How long it is.
+        length: u64,
+    },
     /// The block of reference counts that the entry at that offset names is used for something
     /// else, or named twice.
     SharedBlock {
@@ -131,6 +146,15 @@ impl Display for Fault {
             Fault::CopiedBit { table, at } => write!(
                 f,
                 "the copied bit of the entry of {table} at {at} disagrees with the refcount"
+            ),
+            Fault::LongExtra { at, length } => write!(
+                f,
+                "the entry of the snapshot table at {at} has {length} bytes of extra data, and 1024 \
+                is the limit"
+            ),
+            Fault::LongSnapshots { start, length } => write!(
+                f,
+                "the snapshot table at {start} has {length} bytes, and 64 MiB is the limit"
             ),
             Fault::SharedBlock { at, start } => write!(
                 f,

@@ -3,11 +3,12 @@
 ghost use Rattle.std.specs.Prelude.{◌≡◌, ℕ, List, ◌+◌, ◌-◌, ◌*◌, ◌/◌, ◌%◌, ◌^◌, ◌<◌, ◌≤◌, length};
 ghost use Rattle.std.specs.Prelude.{nat_eq, nat_lt, not, ◌||◌, OnOk, IfOk, IsTrue};
 ghost use Rattle.std.specs.Int.{next_multiple_of};
-ghost use Rattle.imago_qcow2_check.specs.Sums.{total};
+ghost use Rattle.imago_qcow2_check.specs.Sums.{total, one_if};
+ghost use Rattle.imago_qcow2_check.specs.Clusters.{use_of, past_fault};
 ghost use Rattle.imago_qcow2_check.specs.Snapshots.{snapshot_l1, snapshot_l1_count, snapshot_end};
-ghost use Rattle.imago_qcow2_check.specs.Snapshots.{snapshots_end, snapshot_at};
+ghost use Rattle.imago_qcow2_check.specs.Snapshots.{snapshots_end, snapshot_at, is_long_table};
 ghost use Rattle.imago_qcow2_check.specs.Uses.{snapshot_uses, snapshot_faults, snapshots_uses};
-ghost use Rattle.imago_qcow2_check.specs.Uses.{snapshots_faults};
+ghost use Rattle.imago_qcow2_check.specs.Uses.{snapshot_tables_faults, snapshots_faults};
 ghost use Rattle.imago_qcow2_check.specs.SnapshotParts.{IsSnapshot};
 ghost use Rattle.imago_qcow2_check.specs.Tallies.{setting_of, Adds};
 
@@ -25,6 +26,12 @@ use std::alloc::Global;
 /// The most entries that the L1 table of a snapshot may have: 32 MiB.
 const MOST_ENTRIES: u32 = 4_194_304;
 
+/// The most bytes of extra data that a snapshot's entry may have, as qemu reads it.
+const LONGEST_EXTRA: u32 = 1024;
+
+/// The most bytes that the table of snapshots may have, as qemu reads it.
+const LONGEST_TABLE: u64 = 64 << 20;
+
 /// What is looked at of a snapshot.
 #[derive(Clone, Copy)]
 pub(crate) struct Snapshot {
@@ -32,7 +39,9 @@ pub(crate) struct Snapshot {
     pub(crate) l1_start: u64,
     /// How many entries that has.
     pub(crate) l1_count: u32,
-    /// Where its own entry ends.
+    /// How many bytes of extra data its own entry has.
+    pub(crate) extra: u32,
+    /// Where that entry ends.
     pub(crate) end: u64,
 }
 
@@ -44,10 +53,12 @@ fn read_snapshot<S: Storage>(storage: &S, alloc: Global, at: u64) -> Result<Snap
 {
     let mut head = [0u8; 40];
     storage.read(alloc, &mut head, at)?;
+    let extra = number32(&head, 36);
     Ok(Snapshot {
         l1_start: number64(&head, 0),
         l1_count: number32(&head, 8),
-        end: at + 40 + number32(&head, 36) as u64 + number16(&head, 12) + number16(&head, 14),
+        extra,
+        end: at + 40 + extra as u64 + number16(&head, 12) + number16(&head, 14),
     })
 }
 
@@ -78,7 +89,7 @@ fn look_at_tables<S: Storage>(
         → IsSnapshot (S.bytes storage.now) at snapshot → OnOk result
         (Adds tally.old tally.new
         (snapshot_uses (setting_of shape counts.now) (S.bytes storage.now) at)
-        (snapshot_faults (setting_of shape counts.now) (S.bytes storage.now) at)) }
+        (snapshot_tables_faults (setting_of shape counts.now) (S.bytes storage.now) at)) }
 {
     if is_invalid(shape, snapshot) {
         let fault = Fault::InvalidEntry {
@@ -101,6 +112,33 @@ fn look_at_tables<S: Storage>(
         snapshot.l1_count,
         tally,
     )?;
+    Ok(())
+}
+
+/// Looks at a snapshot, whose entry begins there, and at its tables.
+fn look_at_snapshot<S: Storage>(
+    storage: &S,
+    alloc: Global,
+    shape: Shape,
+    counts: &[u32],
+    snapshot: Snapshot,
+    at: u64,
+    tally: &mut Tally,
+) -> Result<(), CheckError>
+    requires all { length tally.old.uses.items ≡ shape.clusters }
+    ensures all { OnOk result (length tally.new.uses.items ≡ shape.clusters) }
+    ensures told { IsTrue (S.features storage.now).tells_bytes
+        → IsSnapshot (S.bytes storage.now) at snapshot → OnOk result
+        (Adds tally.old tally.new
+        (snapshot_uses (setting_of shape counts.now) (S.bytes storage.now) at)
+        (snapshot_faults (setting_of shape counts.now) (S.bytes storage.now) at)) }
+{
+    let fault = Fault::LongExtra {
+        at,
+        length: snapshot.extra,
+    };
+    tally.tell(snapshot.extra > LONGEST_EXTRA, fault)?;
+    look_at_tables(storage, alloc, shape, counts, snapshot, at, tally)?;
     Ok(())
 }
 
@@ -131,11 +169,27 @@ fn look_at_next<S: Storage>(
     }
     let at = end.next_multiple_of(8);
     let snapshot = read_snapshot(storage, alloc, at)?;
-    look_at_tables(storage, alloc, shape, counts, snapshot, at, tally)?;
+    look_at_snapshot(storage, alloc, shape, counts, snapshot, at, tally)?;
     if snapshot.end < end {
         return Err(CheckError::SnapshotTable);
     }
     Ok(snapshot.end)
+}
+
+/// Counts the uses of clusters by the table of snapshots, of so many bytes, and its own faults.
+fn name_table(shape: Shape, start: u64, size: u64, tally: &mut Tally) -> Result<(), CheckError>
+    requires all { length tally.old.uses.items ≡ shape.clusters }
+    ensures { (counts : List ℕ) → OnOk result
+        (Adds tally.old tally.new (use_of (setting_of shape counts) start size)
+        (past_fault (setting_of shape counts) start size + one_if (is_long_table size))) }
+{
+    tally.name(shape, start, size, Table::Header, 64)?;
+    let fault = Fault::LongSnapshots {
+        start,
+        length: size,
+    };
+    tally.tell(size > LONGEST_TABLE, fault)?;
+    Ok(())
 }
 
 /// Looks at the table of snapshots, of so many entries from `start` on, and at the tables of each.
@@ -159,6 +213,6 @@ pub(crate) fn look_at_snapshots<S: Storage>(
     for _index in 0..count {
         end = look_at_next(storage, alloc, shape, counts, end, tally)?;
     }
-    tally.name(shape, start, end - start, Table::Header, 64)?;
+    name_table(shape, start, end - start, tally)?;
     Ok(())
 }

@@ -1,6 +1,6 @@
 -- Which L2 tables are needed.
 -- SPDX-License-Identifier: MIT
-use Rattle.std.proofs.Common.{◌≡◌, ℕ, ◌+◌, ◌-◌, ◌*◌, ◌/◌, ◌%◌, ◌<◌, ◌≤◌, ⊎_elim, inl, inr, Bool, true, false, refl, sym, ap, subst, ◌∙◌, arith, mul_assoc}
+use Rattle.std.proofs.Common.{◌≡◌, ℕ, ◌+◌, ◌-◌, ◌*◌, ◌/◌, ◌%◌, ◌<◌, ◌≤◌, ⊎_elim, Bool, true, false, refl, sym, ap, subst, ◌∙◌, arith, mul_assoc}
 use Rattle.std.specs.Prelude.{max}
 use Rattle.std.specs.Int.{next_multiple_of}
 use Rattle.std.proofs.lemmas.Bool.{cases_lt}
@@ -10,7 +10,7 @@ use Rattle.imago_qcow2_new.specs.declared.extents.Extents.{Extents}
 use Rattle.imago_qcow2_new.specs.Extents.{Spot}
 use Rattle.imago_qcow2_new.specs.Space.{stores, StoresMore}
 use Rattle.imago_qcow2_new.specs.Layout.{HasCluster, NeedsTable, AreNeeded}
-use Rattle.imago_qcow2_new.proofs.Whole.{as_product, rest_whole, sum_whole, times_whole, entry_place}
+use Rattle.imago_qcow2_new.proofs.Whole.{as_product, rest_whole, times_whole, entry_place}
 use Rattle.imago_qcow2_new.proofs.ExtentSteps.{at_end}
 
 same_bool : (a b : Bool) → (b ≡ true → a ≡ true) → (a ≡ true → b ≡ true) → a ≡ b

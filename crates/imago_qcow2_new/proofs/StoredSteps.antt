@@ -6,7 +6,7 @@ use Rattle.std.specs.Int.{next_multiple_of}
 use Rattle.std.proofs.lemmas.Bool.{cases_lt}
 use Rattle.std.proofs.lemmas.Nat.{div-add-mod'}
 use Rattle.imago_storage.proofs.Padding.{next_multiple, next_below}
-use Rattle.imago_drivers.specs.Place.{Value, Byte, HasValues}
+use Rattle.imago_drivers.specs.Place.{Value, HasValues}
 use Rattle.imago_access.specs.Disk.{value_at, IsPartOf}
 use Rattle.imago_qcow2_new.specs.declared.extent.Extent.{Extent}
 use Rattle.imago_qcow2_new.specs.declared.extents.Extents.{Extents}

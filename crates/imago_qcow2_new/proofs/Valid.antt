@@ -14,7 +14,7 @@ use Rattle.imago_qcow2_check.specs.Sums.{one_if}
 use Rattle.imago_qcow2_check.specs.Clusters.{Setting, cluster_count, passes}
 use Rattle.imago_qcow2_check.specs.Entries.{offset_of, copied_fault, cluster_faults, invalid_table, l1_entry_faults, l2_entry_faults, names_table}
 use Rattle.imago_qcow2_check.specs.Counts.{blocks_start, blocks_length, block_entry, count_of}
-use Rattle.imago_qcow2_check.specs.Snapshots.{snapshot_count, snapshots_start, snapshots_end, snapshots_length}
+use Rattle.imago_qcow2_check.specs.Snapshots.{snapshot_count, snapshots_start, snapshots_end, snapshots_length, is_long_table}
 use Rattle.imago_qcow2_check.specs.Faults.{shared_fault}
 use Rattle.imago_qcow2_check.specs.Bitmaps.{bitmaps_extension, bitmaps_faults}
 use Rattle.imago_qcow2_check.specs.Uses.{setting, is_once, l1_count, block_faults, uses_of}
@@ -86,6 +86,13 @@ module _ (l : Layout) (values : ℕ → Value) (file : List ℕ) (is : IsWritten
   no_snapshot_bytes start =
       let none : start - start ≡ 0 = omega arith in
       rw none refl
+
+  short_table : is_long_table (snapshots_length file (snapshots_start file) (snapshot_count file)) ≡ false
+  unfolding snapshots_end
+  short_table =
+      let z = no_snapshots l values file is in
+      let none : snapshots_start file - snapshots_start file ≡ 0 = omega arith in
+      ap (λ x. is_long_table (snapshots_length file (snapshots_start file) x)) z ∙ rw none refl
 
   -- the tables that the header names lie in the file
   tables_inside : HasTablesInside (by l values file is) file
@@ -220,6 +227,7 @@ module _ (l : Layout) (values : ℕ → Value) (file : List ℕ) (is : IsWritten
           let near : j < l.cluster / 8 = subst (λ (x : Setting). j < x.cluster / 8) s less in
           ap (λ x. l2_entry_faults x true (be64 file (offset_of (l1_entry file i) + 8 * j))) s ∙ ap (λ x. l2_entry_faults (by l values file is) true (be64 file (offset_of x + 8 * j))) e ∙ table_entries i j inside here near;
       snapshots = λ i lt. absurd (let z = no_snapshots l values file is in omega (arith, lt, z));
+      short = short_table;
       bitmaps = bitmaps_sound;
       blocks = λ i lt.
           let k = count_entries l values file is in

@@ -5,4 +5,5 @@ pub mod Words
 pub mod Names
 pub mod Header
 pub mod Layout
+pub mod Grown
 pub mod Image

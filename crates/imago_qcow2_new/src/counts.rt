@@ -3,9 +3,11 @@
 ghost use Rattle.std.specs.Prelude.{◌≡◌, ◌+◌, ◌*◌, ◌/◌, ◌%◌, ◌^◌, ◌<◌, ◌≤◌, IfOk};
 ghost use Rattle.std.specs.Int.{div_ceil, next_multiple_of};
 ghost use Rattle.imago_qcow2_new.specs.Layout.{per_block, per_table};
+ghost use Rattle.imago_qcow2_new.specs.Grown.{with_counts, IsTooLong};
 
 use crate::extents::rounded_up;
 use crate::format::FormatError;
+use crate::layout::LONGEST_FILE;
 
 /// The greatest length of the table of reference count blocks, in bytes, as qemu opens it.
 const LONGEST_COUNT_TABLE: u64 = 8 << 20;
@@ -36,6 +38,25 @@ fn counts_of(others: u64, cluster: u64) -> Result<(u64, u64), FormatError>
     let table = others.div_ceil(in_block * (cluster / 8) - 1);
     let blocks = plus(others, table)?.div_ceil(in_block);
     Ok((table, blocks))
+}
+
+/// The length of a file of so many clusters besides those of its reference counts, where the table
+/// of these is longer than qemu opens, or the file than an entry's offset can say.
+pub(crate) fn grown(others: u64, cluster: u64) -> Result<u64, FormatError>
+    requires least { 512 ≤ cluster }
+    requires most { cluster ≤ 2097152 }
+    ensures length { IfOk result (λ n. n ≡ with_counts others cluster * cluster) }
+    ensures long { IfOk result (λ _. IsTooLong others cluster) }
+{
+    let (table, blocks) = counts_of(others, cluster)?;
+    let length = times(plus(plus(others, table)?, blocks)?, cluster)?;
+    if table > LONGEST_COUNT_TABLE / cluster {
+        return Ok(length);
+    }
+    if length > LONGEST_FILE {
+        return Ok(length);
+    }
+    Err(FormatError::TooLarge)
 }
 
 /// Where the parts of a file of so many clusters stand.

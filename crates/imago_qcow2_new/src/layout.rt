@@ -80,7 +80,7 @@ const LARGEST_DISK: u64 = 1 << 62;
 const SECTOR: u64 = 512;
 
 /// The greatest length of a file, in bytes: what an entry's offset can say.
-const LONGEST_FILE: u64 = 1 << 56;
+pub(crate) const LONGEST_FILE: u64 = 1 << 56;
 
 /// The size of a disk that has so many bytes at least: in whole sectors of 512 bytes.
 pub fn rounded_size(size: u64) -> Result<u64, FormatError>

@@ -12,6 +12,7 @@ pub mod extent;
 pub mod extents;
 pub mod file;
 pub mod format;
+pub mod grown;
 mod header;
 mod l2;
 pub mod laws;

@@ -1,9 +1,9 @@
 -- SPDX-License-Identifier: MIT
-use Rattle.std.proofs.Common.{◌≡◌, ◌-◌, sym, ap, ◌∙◌, arith}
+use Rattle.std.proofs.Common.{◌≡◌, ◌+◌, ◌-◌, sym, ap, ◌∙◌, arith}
 use Rattle.std.specs.Int.{next_multiple_of}
-use Rattle.imago_qcow2_check.specs.Sums.{total}
+use Rattle.imago_qcow2_check.specs.Sums.{total, one_if}
 use Rattle.imago_qcow2_check.specs.Clusters.{use_of, past_fault}
-use Rattle.imago_qcow2_check.specs.Snapshots.{snapshot_end, snapshots_end, snapshot_at}
+use Rattle.imago_qcow2_check.specs.Snapshots.{snapshot_end, snapshots_end, snapshot_at, is_long_table}
 use Rattle.imago_qcow2_check.specs.Uses.{snapshot_uses, snapshot_faults}
 use Rattle.imago_qcow2_check.specs.Tallies.{setting_of, Adds}
 use Rattle.imago_qcow2_check.proofs.TallySteps.{adds_first, adds_next, adds_len}
@@ -42,7 +42,7 @@ pub returns-clause-all : goal.returns-clause-all
 returns-clause-all g c =
     let s = setting_of c.args.shape c.args.counts.now in
     let n = c.loop-index.end - c.args.start in
-    adds_len c.loop-index.tally c.name.new.self (use_of s c.args.start n) (past_fault s c.args.start n) c.args.shape.clusters (c.in_ok-name.ensures c.args.counts.now) c.loop-index.invariant.all
+    adds_len c.loop-index.tally c.name_table.new.tally (use_of s c.args.start n) (past_fault s c.args.start n + one_if (is_long_table n)) c.args.shape.clusters (c.in_ok-name_table.ensures c.args.counts.now) c.loop-index.invariant.all
 
 pub returns-clause-told : goal.returns-clause-told
 returns-clause-told g c = λ told.
@@ -52,4 +52,4 @@ returns-clause-told g c = λ told.
     let k : c.loop-index._index ≡ c.args.count = omega (arith, c.loop-index.auto._index-end, c.loop-index-test.false) in
     let ends : c.loop-index.end ≡ snapshots_end B start c.loop-index._index = c.loop-index.invariant.ends told in
     let p : Adds c.args.tally.now c.loop-index.tally (λ n. total (λ i. snapshot_uses s B (snapshot_at B start i) n) c.loop-index._index) (total (λ i. snapshot_faults s B (snapshot_at B start i)) c.loop-index._index) = c.loop-index.invariant.told told in
-    snapshots_adds s B c.args.tally.now c.loop-index.tally c.name.new.self start c.args.count c.loop-index.end (rw k at ends) (rw k at p) (c.in_ok-name.ensures c.args.counts.now)
+    snapshots_adds s B c.args.tally.now c.loop-index.tally c.name_table.new.tally start c.args.count c.loop-index.end (rw k at ends) (rw k at p) (c.in_ok-name_table.ensures c.args.counts.now)

@@ -15,11 +15,12 @@ returns g c = λ (told : IsTrue (g.S.Storage.features c.args.storage.now).tells_
     let r : IsReadAt B at buf = search rules in
     let l : 40 ≤ length buf = search rules in
     let e : at + 0 ≡ at = omega arith in
-    let extra = c.number32-2.ensures ∙ read32 B buf at r 36 (omega (arith, l)) in
+    let extra = c.number32-extra.ensures ∙ read32 B buf at r 36 (omega (arith, l)) in
     let id = c.number16.ensures.value ∙ number_read B buf at r 12 2 (omega (arith, l)) in
     let name = c.number16-2.ensures.value ∙ number_read B buf at r 14 2 (omega (arith, l)) in
     record {
       start = c.number64.ensures ∙ read64 B buf at r 0 (omega (arith, l)) ∙ ap (be64 B) e;
       count = c.number32.ensures ∙ read32 B buf at r 8 (omega (arith, l));
+      extra = extra;
       ends = rw (extra, id, name) refl;
     }

@@ -1,5 +1,5 @@
 -- SPDX-License-Identifier: MIT
-use Rattle.std.proofs.Common.{◌≡◌, ℕ, ◌≤◌, false, refl}
+use Rattle.std.proofs.Common.{refl}
 use Rattle.imago_qcow2_new.proofs.Whole.{power_least, power_most}
 use Rattle.imago_qcow2_new.proofs.StoredSteps.{was_not}
 use Rattle.imago_qcow2_new.proofs.entries.is_empty.Goals as goal

@@ -1,5 +1,5 @@
 -- SPDX-License-Identifier: MIT
-use Rattle.std.proofs.Common.{◌≡◌, ◌<◌, arith}
+use Rattle.std.proofs.Common.{arith}
 use Rattle.imago_qcow2_new.proofs.NeedSteps.{added_table, other_table, ends_at}
 use Rattle.imago_qcow2_new.proofs.l2.add_table.Goals as goal
 

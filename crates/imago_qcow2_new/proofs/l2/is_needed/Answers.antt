@@ -1,5 +1,5 @@
 -- SPDX-License-Identifier: MIT
-use Rattle.std.proofs.Common.{◌≡◌, ◌<◌, ◌≤◌, true, false, ⊎_elim, inr, sym, ◌∙◌, refl, arith}
+use Rattle.std.proofs.Common.{◌≡◌, ◌<◌, true, false, ⊎_elim, inr, sym, ◌∙◌, arith}
 use Rattle.imago_qcow2_new.specs.Layout.{HasCluster}
 use Rattle.imago_qcow2_new.proofs.StoredSteps.{either_way}
 use Rattle.imago_qcow2_new.proofs.l2.is_needed.Goals as goal

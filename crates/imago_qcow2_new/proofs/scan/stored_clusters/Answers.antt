@@ -1,5 +1,5 @@
 -- SPDX-License-Identifier: MIT
-use Rattle.std.proofs.Common.{◌≡◌, IsTrue, ◌∙◌, subst, sym}
+use Rattle.std.proofs.Common.{IsTrue, ◌∙◌, subst, sym}
 use Rattle.imago_access.specs.declared.access.FormatAccess.{FormatAccess}
 use Rattle.imago_access.specs.Chain.{tells_bytes}
 use Rattle.imago_access.specs.Disk.{disk, value_at}

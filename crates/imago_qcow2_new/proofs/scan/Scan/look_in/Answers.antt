@@ -1,5 +1,5 @@
 -- SPDX-License-Identifier: MIT
-use Rattle.std.proofs.Common.{◌≡◌, ℕ, ◌+◌, ◌%◌, ◌<◌, ◌≤◌, length, sym, subst, arith}
+use Rattle.std.proofs.Common.{ℕ, ◌+◌, ◌%◌, ◌<◌, ◌≤◌, length, sym, subst, arith}
 use Rattle.imago_qcow2_new.proofs.StoredSteps.{was_not, looked}
 use Rattle.imago_qcow2_new.proofs.scan.Scan.look_in.Goals as goal
 
