@@ -45,6 +45,7 @@ worked_asks (Asked.Convert c) a = record {
 }
 worked_asks (Asked.Help _) a = a
 worked_asks Asked.Version a = a
+worked_asks (Asked.Settings _) a = a
 worked_asks (Asked.Info _) a = a
 worked_asks (Asked.Map _) a = a
 worked_asks (Asked.Check _) a = a

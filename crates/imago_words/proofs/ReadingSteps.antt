@@ -61,8 +61,12 @@ unfolding first_letter
 long_is [] l = refl
 long_is (b ∷ bs) l = rw (le-ltb b 128 l) refl
 
--- what was given has a key, as items and as they are shown
+-- one of what was given passes a test, as items and as they are shown
+pub any_shown : (test : Known × Text → Bool) (items : List Given)
+    → list_any (λ g. test (shown g)) items ≡ list_any test (map shown items)
+any_shown test [] = refl
+any_shown test (g ∷ items) = ap (λ b. test (shown g) || b) (any_shown test items)
+
 pub any_given : (key : Text) (items : List Given)
     → list_any (λ g. bytes_eq g.row.key.now key) items ≡ list_any (is_key key) (map shown items)
-any_given key [] = refl
-any_given key (g ∷ items) = ap (λ b. bytes_eq g.row.key.now key || b) (any_given key items)
+any_given key items = any_shown (is_key key) items

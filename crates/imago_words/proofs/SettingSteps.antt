@@ -1,11 +1,10 @@
 -- Settings, by the commas between them.
 -- SPDX-License-Identifier: MIT
-use Rattle.std.proofs.Common.{◌≡◌, ◌≢◌, ◌∙◌, ◌∷◌, ◌++◌, ◌+◌, ◌<◌, ◌==◌, ℕ, Bool, true, false, List, [], length, get_or}
+use Rattle.std.proofs.Common.{◌≡◌, ◌≢◌, ◌∙◌, ◌∷◌, ◌++◌, ◌+◌, ◌<◌, ◌==◌, ℕ, false, [], length, get_or}
 use Rattle.std.proofs.Common.{refl, sym, ap, arith, Bor}
 use Rattle.std.proofs.lemmas.Bool.{false≢true}
 use Rattle.std.proofs.lemmas.Bool.Decides.{nat_tests}
 use Rattle.std.proofs.lemmas.Grind.{common_steps}
-use Rattle.std.specs.List.{slice_split}
 use Rattle.std.specs.Prelude.{Option, Some, None, MatchOption, Result, Ok, Err, IsErr, is_ok, is_some, option_and_then}
 use Rattle.imago_words.specs.declared.settings.Settings.{Settings}
 use Rattle.imago_words.specs.Reading.{Text}

@@ -2,7 +2,7 @@
 -- SPDX-License-Identifier: MIT
 use Rattle.std.specs.Prelude.{◌≡◌, ◌∷◌, ◌&&◌, ◌||◌, ◌==◌, ℕ, Bool, true, false, not, List, []}
 use Rattle.std.specs.Prelude.{Option, Some, None, if◌then◌else◌, codes, is_some, length}
-use Rattle.std.specs.Prelude.{option_and_then, option_map, unwrap_or}
+use Rattle.std.specs.Prelude.{option_and_then, unwrap_or}
 use Rattle.std.specs.Str.{bytes_eq}
 use Rattle.imago_words.specs.declared.command.Backing.{Backing}
 use Rattle.imago_words.specs.declared.command.Check.{Check}

@@ -1,7 +1,7 @@
 -- What a whole command line asks for, behind the program's name.
 -- SPDX-License-Identifier: MIT
-use Rattle.std.specs.Prelude.{◌≡◌, ◌∷◌, ◌||◌, ℕ, Bool, false, List, [], Option, Some, None}
-use Rattle.std.specs.Prelude.{if◌then◌else◌, MatchOption, codes, is_some}
+use Rattle.std.specs.Prelude.{◌≡◌, ◌∷◌, ◌||◌, ℕ, Bool, true, false, List, [], Option, Some, None}
+use Rattle.std.specs.Prelude.{if◌then◌else◌, MatchOption, codes, is_some, option_map}
 use Rattle.std.specs.Str.{bytes_eq}
 use Rattle.imago_words.specs.declared.command.Command.{Command}
 use Rattle.imago_words.specs.declared.command.Command.TheVariants as Asked
@@ -16,6 +16,7 @@ use Rattle.imago_words.specs.Commands.{info_is_meant, compare_is_meant, convert_
 use Rattle.imago_words.specs.Commands.{create_is_meant, measure_is_meant, resize_is_meant}
 use Rattle.imago_words.specs.Options.{options_of}
 use Rattle.imago_words.specs.Reading.{State, Text, read_of, was_given}
+use Rattle.imago_words.specs.Settings.{asks_settings, target_format}
 
 unfoldable pub kind_named : Text → Option Kind
 kind_named name = if bytes_eq name (codes "info") then Some Info else
@@ -53,8 +54,15 @@ IsOf Measure s (Asked.Measure c) = IsMeasure s c
 IsOf Resize s (Asked.Resize c) = IsResize s c
 IsOf _ s _ = ⊥
 
+-- where `-o help` asks for it, the settings of a new file of the format that is named are told
+abbrev pub IsToldOr : Bool → Kind → State → Command → Type 0
+IsToldOr true kind s c = option_map Asked.Settings (target_format s) ≡ Some c
+IsToldOr false kind s c = IsOf kind s c
+
+-- help and the version beat that
 abbrev pub IsBehind : Kind → State → Command → Type 0
-IsBehind kind s c = MatchOption (answer_given kind s) (IsOf kind s c) (λ answer. c ≡ answer)
+IsBehind kind s c = MatchOption (answer_given kind s)
+    (IsToldOr (asks_settings s) kind s c) (λ answer. c ≡ answer)
 
 -- those words are meant
 abbrev pub of_is_meant : Kind → State → Bool
@@ -68,8 +76,13 @@ of_is_meant Create s = create_is_meant s
 of_is_meant Measure s = measure_is_meant s
 of_is_meant Resize s = resize_is_meant s
 
+abbrev pub told_or_is_meant : Bool → Kind → State → Bool
+told_or_is_meant true kind s = is_some (target_format s)
+told_or_is_meant false kind s = of_is_meant kind s
+
 abbrev pub behind_is_meant : Kind → State → Bool
-behind_is_meant kind s = is_some (answer_given kind s) || of_is_meant kind s
+behind_is_meant kind s = is_some (answer_given kind s)
+    || told_or_is_meant (asks_settings s) kind s
 
 -- the words behind the first one ask for that, by the options of the command that it names
 abbrev pub IsNamed : Option Kind → List Text → Command → Type 0

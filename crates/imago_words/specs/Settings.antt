@@ -2,13 +2,15 @@
 -- SPDX-License-Identifier: MIT
 use Rattle.std.specs.Prelude.{◌∷◌, ◌&&◌, ◌||◌, ◌==◌, ℕ, Bool, true, false, List, [], Option, Some}
 use Rattle.std.specs.Prelude.{None, if◌then◌else◌, codes, option_and_then, option_map}
-use Rattle.std.specs.List.{slice_split}
+use Rattle.std.specs.List.{list_any, slice_split}
 use Rattle.std.specs.Str.{bytes_eq}
 use Rattle.imago_words.specs.declared.settings.Settings.{Settings}
 use Rattle.imago_words.specs.declared.settings.Version.{Version}
 use Rattle.imago_words.specs.declared.settings.Version.TheVariants.{Two, Three}
 use Rattle.imago_words.specs.declared.settings.NewFormat.{NewFormat}
 use Rattle.imago_words.specs.declared.settings.NewFormat.TheVariants.{Raw, Qcow2}
+use Rattle.imago_words.specs.declared.settings.TargetFormat.{TargetFormat}
+use Rattle.imago_words.specs.declared.settings.TargetFormat.TheVariants as Target
 use Rattle.imago_words.specs.Reading.{Known, State, Text, cut_at, is_key, value_given, was_given}
 use Rattle.imago_words.specs.Sizes.{size_of}
 
@@ -100,14 +102,36 @@ raw_format s = if was_given (codes "options") s then None else Some Raw
 abbrev pub qcow2_format : State → Option NewFormat
 qcow2_format s = option_map Qcow2 (settings_given s)
 
-unfoldable pub format_by : Text → State → Option NewFormat
-format_by name s = if bytes_eq name (codes "raw") then raw_format s else
-    if bytes_eq name (codes "qcow2") then qcow2_format s else None
+-- the formats of files that commands make, by their names
+unfoldable pub target_named : Text → Option TargetFormat
+target_named name = if bytes_eq name (codes "raw") then Some Target.Raw else
+    if bytes_eq name (codes "qcow2") then Some Target.Qcow2 else None
 
--- the format of the file that a command makes: raw, if nothing is said
-abbrev new_format_by : Option Text → State → Option NewFormat
-new_format_by None s = raw_format s
-new_format_by (Some name) s = format_by name s
+-- the one of the file that a command makes: raw, if nothing is said
+abbrev target_by : Option Text → Option TargetFormat
+target_by None = Some Target.Raw
+target_by (Some name) = target_named name
+
+abbrev pub target_format : State → Option TargetFormat
+target_format s = target_by (value_given (codes "target-format") s)
+
+-- the same with its settings
+abbrev pub format_as : State → TargetFormat → Option NewFormat
+format_as s Target.Raw = raw_format s
+format_as s Target.Qcow2 = qcow2_format s
 
 abbrev pub new_format : State → Option NewFormat
-new_format s = new_format_by (value_given (codes "target-format") s) s
+new_format s = option_and_then (format_as s) (target_format s)
+
+-- one of the texts behind an `-o` asks which settings there are
+unfoldable pub is_help : Text → Bool
+is_help text = bytes_eq text (codes "help") || bytes_eq text (codes "?")
+
+abbrev pub has_help : Text → Bool
+has_help text = list_any is_help (texts_of text)
+
+abbrev pub asks_help : Known × Text → Bool
+asks_help given = is_key (codes "options") given && has_help given.1
+
+abbrev pub asks_settings : State → Bool
+asks_settings s = list_any asks_help s.given

@@ -2,7 +2,7 @@
 //! What a command line asks for.
 use crate::format::Format;
 use crate::kind::Kind;
-use crate::settings::NewFormat;
+use crate::settings::{NewFormat, TargetFormat};
 
 /// What a command line asks for.
 #[derive(Clone, Copy)]
@@ -11,6 +11,8 @@ pub enum Command<'a> {
     Help(Option<Kind>),
     /// The version of the program.
     Version,
+    /// What `-o` may say of a new file of that format.
+    Settings(TargetFormat),
     /// To tell what an image is.
     Info(Info<'a>),
     /// To tell where the bytes of an image's disk stand.

@@ -1,8 +1,10 @@
 // SPDX-License-Identifier: MIT
 //! What help prints.
 use crate::kind::{KINDS, Kind};
-use crate::page::Page;
+use crate::page::{Page, Setting};
 use crate::row::{Name, Row};
+use crate::settings::TargetFormat;
+use crate::table::QCOW2_SETTINGS;
 use std::fmt::{self, Display};
 
 /// The version of the program.
@@ -30,6 +32,46 @@ impl Display for Help {
         }
         Ok(())
     }
+}
+
+/// What `-o` may say of a new file of that format, as `qemu-img` lists it: an option a line.
+#[derive(Clone, Copy)]
+pub struct SettingsHelp(pub TargetFormat);
+
+/// How many columns the name and the value of a setting take.
+const SETTING_COLUMNS: usize = 22;
+
+impl Display for SettingsHelp {
+    fn fmt<W: fmt::Write>(&self, f: &mut fmt::Formatter<W>) -> fmt::Result {
+        match self.0 {
+            TargetFormat::Raw => f.write_str("There are no options for raw.\n"),
+            TargetFormat::Qcow2 => fmt_settings(f, &QCOW2_SETTINGS),
+        }
+    }
+}
+
+/// The lines of the settings of a qcow2 file.
+fn fmt_settings<W: fmt::Write>(f: &mut fmt::Formatter<W>, settings: &[Setting]) -> fmt::Result {
+    f.write_str("Supported qcow2 options:\n")?;
+    for setting in settings {
+        fmt_setting(f, setting)?;
+    }
+    Ok(())
+}
+
+/// The line of a setting.
+fn fmt_setting<W: fmt::Write>(f: &mut fmt::Formatter<W>, setting: &Setting) -> fmt::Result {
+    let width = setting
+        .name
+        .len()
+        .saturating_add(setting.value.len())
+        .saturating_add(3);
+    let rest = SETTING_COLUMNS.saturating_sub(width);
+    writeln!(
+        f,
+        "  {}=<{}>{:rest$} - {}",
+        setting.name, setting.value, "", setting.help
+    )
 }
 
 /// The help of the program.

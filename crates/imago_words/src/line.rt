@@ -3,11 +3,12 @@
 ghost use Rattle.std.specs.Prelude.{◌≡◌, ◌⊎◌, Some, IfErr, IfOk, is_ok, map, string_bytes};
 ghost use Rattle.std.specs.Prelude.{true, false};
 ghost use Rattle.imago_words.specs.declared.fault.Fault.TheVariants.{Memory};
-ghost use Rattle.imago_words.specs.Line.{Asks, IsBehind, IsNamed, IsOf, answer_of};
+ghost use Rattle.imago_words.specs.Line.{Asks, IsBehind, IsNamed, IsOf, IsToldOr, answer_of};
 ghost use Rattle.imago_words.specs.Line.{behind_is_meant, line_is_meant, named_is_meant};
-ghost use Rattle.imago_words.specs.Line.{of_is_meant};
+ghost use Rattle.imago_words.specs.Line.{of_is_meant, told_or_is_meant};
 ghost use Rattle.imago_words.specs.Line.{kind_typed, status_for, status_of};
 ghost use Rattle.imago_words.specs.Reading.{state_of};
+ghost use Rattle.imago_words.specs.Settings.{asks_settings};
 
 use crate::asked::{
     check_of, compare_of, convert_of, create_of, info_of, map_of, measure_of, resize_of, vet_of,
@@ -16,6 +17,7 @@ use crate::command::Command;
 use crate::fault::Fault;
 use crate::kind::Kind;
 use crate::refusal::Refusal;
+use crate::settings::target_format;
 use crate::words::Words;
 use std::alloc::Global;
 
@@ -88,6 +90,20 @@ fn asked<'a>(kind: Kind, words: &Words<'a>) -> Result<Command<'a>, Fault<'a>>
     }
     if words.has("version") {
         return Ok(Command::Version);
+    }
+    told_or_asked(kind, words)
+}
+
+/// The settings of a new file, where `-o help` asks for them, and else what the command is asked.
+fn told_or_asked<'a>(kind: Kind, words: &Words<'a>) -> Result<Command<'a>, Fault<'a>>
+    ensures ok { IfOk result
+        (λ command. IsToldOr (asks_settings (state_of words.now)) kind (state_of words.now)
+        command) }
+    ensures exact { is_ok result
+        ≡ told_or_is_meant (asks_settings (state_of words.now)) kind (state_of words.now) }
+{
+    if words.asks_settings() {
+        return Ok(Command::Settings(target_format(words)?));
     }
     asked_of(kind, words)
 }

@@ -17,6 +17,17 @@ pub struct Page {
     pub absent: &'static [Absent],
 }
 
+/// A setting of a new file, which `-o` takes.
+#[derive(Clone, Copy)]
+pub struct Setting {
+    /// Its name.
+    pub name: &'static str,
+    /// What help calls its value.
+    pub value: &'static str,
+    /// What it says of the file, and which values it takes.
+    pub help: &'static str,
+}
+
 /// An option, or a command, that only qemu-img has.
 #[derive(Clone, Copy)]
 pub struct Absent {

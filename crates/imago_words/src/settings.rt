@@ -6,13 +6,15 @@ ghost use Rattle.imago_words.specs.Reading.{state_of};
 ghost use Rattle.imago_words.specs.Settings.{bits_of, is_default, plain, version_named};
 ghost use Rattle.imago_words.specs.Settings.{preallocation_named, set, set_all, set_one};
 ghost use Rattle.imago_words.specs.Settings.{texts_of};
-ghost use Rattle.imago_words.specs.Settings.{format_by, new_format, qcow2_format, raw_format};
+ghost use Rattle.imago_words.specs.Settings.{has_help, is_help};
+ghost use Rattle.imago_words.specs.Settings.{new_format, qcow2_format, raw_format};
+ghost use Rattle.imago_words.specs.Settings.{target_format, target_named};
 ghost use Rattle.imago_words.specs.Sizes.{size_of};
 
 use crate::cut::cut_at_equals;
 use crate::fault::Fault;
 use crate::size::size_named;
-use crate::words::{Given, Words};
+use crate::words::Words;
 
 /// The versions of the qcow2 format.
 #[derive(Clone, Copy, Debug, PartialEq, Eq)]
@@ -41,6 +43,29 @@ pub enum NewFormat {
     Raw,
     /// The file is a qcow2 image with these settings.
     Qcow2(Settings),
+}
+
+/// The formats of the files that commands make.
+#[derive(Clone, Copy, Debug, PartialEq, Eq)]
+pub enum TargetFormat {
+    /// The file is the disk.
+    Raw,
+    /// The file is a qcow2 image.
+    Qcow2,
+}
+
+impl TargetFormat {
+    /// The format of that name.
+    #[tactic(auto, unfolding(crate::specs::Settings::target_named))]
+    pub fn named(name: &str) -> Option<TargetFormat>
+        ensures { result ≡ target_named name.now }
+    {
+        match name {
+            "raw" => Some(TargetFormat::Raw),
+            "qcow2" => Some(TargetFormat::Qcow2),
+            _ => None,
+        }
+    }
 }
 
 impl Settings {
@@ -181,29 +206,53 @@ fn is_default(name: &str, value: &str) -> bool
     }
 }
 
+/// Whether one of the texts behind an `-o`, which commas part, asks which settings there are.
+pub(crate) fn has_help(text: &str) -> bool
+    ensures { result ≡ has_help text.now }
+{
+    let mut rest = text;
+    while let Some((first, behind)) = cut_at_comma(rest) {
+        if is_help(first) {
+            return true;
+        }
+        rest = behind;
+    }
+    is_help(rest)
+}
+
+/// Whether a text behind an `-o` asks which settings there are.
+#[tactic(auto, unfolding(crate::specs::Settings::is_help))]
+fn is_help(text: &str) -> bool
+    ensures { result ≡ is_help text.now }
+{
+    match text {
+        "help" | "?" => true,
+        _ => false,
+    }
+}
+
+/// The format of the file that a command makes, whatever its settings are.
+pub(crate) fn target_format<'a>(words: &Words<'a>) -> Result<TargetFormat, Fault<'a>>
+    ensures ok { IfOk result (λ f. target_format (state_of words.now) ≡ Some f) }
+    ensures exact { is_ok result ≡ is_some (target_format (state_of words.now)) }
+{
+    let Some(given) = words.last("target-format") else {
+        return Ok(TargetFormat::Raw);
+    };
+    match TargetFormat::named(given.value) {
+        Some(format) => Ok(format),
+        None => Err(Fault::Value(given.row.key, given.value)),
+    }
+}
+
 /// The format of the file that a command makes.
 pub(crate) fn new_format<'a>(words: &Words<'a>) -> Result<NewFormat, Fault<'a>>
     ensures ok { IfOk result (λ f. new_format (state_of words.now) ≡ Some f) }
     ensures exact { is_ok result ≡ is_some (new_format (state_of words.now)) }
 {
-    match words.last("target-format") {
-        None => raw_format(words),
-        Some(given) => format_of(words, given),
-    }
-}
-
-/// The format that an option names.
-#[tactic(auto, unfolding(crate::specs::Settings::format_by))]
-fn format_of<'a>(words: &Words<'a>, given: Given<'a>) -> Result<NewFormat, Fault<'a>>
-    ensures ok { IfOk result
-        (λ f. format_by given.entry.value.now (state_of words.now) ≡ Some f) }
-    ensures exact { is_ok result
-        ≡ is_some (format_by given.entry.value.now (state_of words.now)) }
-{
-    match given.value {
-        "raw" => raw_format(words),
-        "qcow2" => qcow2_format(words),
-        _ => Err(Fault::Value(given.row.key, given.value)),
+    match target_format(words)? {
+        TargetFormat::Raw => raw_format(words),
+        TargetFormat::Qcow2 => qcow2_format(words),
     }
 }
 

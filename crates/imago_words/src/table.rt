@@ -1,6 +1,6 @@
 // SPDX-License-Identifier: MIT
 //! The table: the commands and their options, as they are typed and as help tells them.
-use crate::page::{Absent, Page};
+use crate::page::{Absent, Page, Setting};
 use crate::row::Row;
 
 /// An option without a value: its key, letter and name, and what help says of it.
@@ -41,6 +41,17 @@ macro_rules! absent {
         Absent {
             name: $name,
             instead: $instead,
+        }
+    };
+}
+
+/// A setting of a new file: its name, what help calls its value, and what help says of it.
+macro_rules! setting {
+    ($name:literal, $value:literal, $help:literal) => {
+        Setting {
+            name: $name,
+            value: $value,
+            help: $help,
         }
     };
 }
@@ -87,7 +98,7 @@ const SETTINGS: Row = valued!(
     "",
     "OPT=V",
     "",
-    "Options of a qcow2 OUT, with commas between them"
+    "Options of OUT, with commas between; -o help lists them"
 );
 
 const OUTPUT: Row = valued!(
@@ -475,6 +486,29 @@ pub static RESIZE: Page = Page {
         IMAGE_OPTS,
     ],
 };
+
+/// The settings of a new qcow2 file.
+pub(crate) static QCOW2_SETTINGS: [Setting; 7] = [
+    setting!(
+        "cluster_size",
+        "size",
+        "Cluster size: a power of two, 512 to 2M (default 64k)"
+    ),
+    setting!(
+        "compat",
+        "str",
+        "Format version: 0.10 or v2, 1.1 or v3 (default 1.1)"
+    ),
+    setting!("compression_type", "str", "Only zlib is accepted"),
+    setting!("extended_l2", "bool (on/off)", "Only off is accepted"),
+    setting!("lazy_refcounts", "bool (on/off)", "Only off is accepted"),
+    setting!(
+        "preallocation",
+        "str",
+        "off or metadata: all tables are written (default off)"
+    ),
+    setting!("refcount_bits", "num", "Only 16 is accepted"),
+];
 
 /// The settings that only qemu-img has.
 pub(crate) static ABSENT_SETTINGS: [Absent; 11] = [

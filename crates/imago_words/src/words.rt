@@ -10,12 +10,12 @@ ghost use Rattle.imago_words.specs.declared.fault.Fault.TheVariants.{Memory};
 ghost use Rattle.imago_words.specs.Reading.{known, letters, named, read_of, state_of, step};
 ghost use Rattle.imago_words.specs.Reading.{valued_letter, with_file, with_given};
 ghost use Rattle.imago_words.specs.Reading.{is_key, last_given, last_of, shown, was_given};
-ghost use Rattle.imago_words.specs.Settings.{with_option, with_options};
+ghost use Rattle.imago_words.specs.Settings.{asks_help, asks_settings, with_option, with_options};
 
 use crate::cut::{begins_number, cut_at_equals, cut_dash, cut_letter};
 use crate::fault::Fault;
 use crate::row::{Row, find_letter, find_name};
-use crate::settings::Settings;
+use crate::settings::{Settings, has_help};
 use std::alloc::Global;
 
 /// An option that was given.
@@ -206,6 +206,13 @@ impl<'a> Words<'a> {
         add_options(&self.given, settings)
     }
 
+    /// Whether one of the `-o` asks which settings there are.
+    pub(crate) fn asks_settings(&self) -> bool
+        ensures { result ≡ asks_settings (state_of self.now) }
+    {
+        ask_settings(&self.given)
+    }
+
     /// No file, if there is none.
     pub fn no_file(&self) -> Result<(), Fault<'a>>
         ensures ok { OnOk result ((state_of self.now).files ≡ []) }
@@ -262,6 +269,20 @@ fn has_key(given: &[Given<'_>], key: &str) -> bool
     ensures { result ≡ list_any (λ g. bytes_eq g.row.key.now key.now) given.now }
 {
     given.iter().any(|first| first.row.key == key)
+}
+
+/// Whether one of the options is an `-o` that asks which settings there are.
+fn ask_settings(given: &[Given<'_>]) -> bool
+    ensures { result ≡ list_any (λ g. asks_help (shown g)) given.now }
+{
+    given.iter().any(|first| asks_help(*first))
+}
+
+/// Whether an option is an `-o` that asks which settings there are.
+fn asks_help(given: Given<'_>) -> bool
+    ensures { result ≡ asks_help (shown given.entry) }
+{
+    given.row.key == "options" && has_help(given.value)
 }
 
 /// Those settings, with what the options among them add that say more of these.

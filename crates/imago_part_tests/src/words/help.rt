@@ -3,7 +3,7 @@
 
 use super::set_up::{Case, check_cases};
 
-static CASES: [Case; 11] = [
+static CASES: [Case; 17] = [
     Case {
         words: &["--help"],
         status: 0,
@@ -59,7 +59,57 @@ static CASES: [Case; 11] = [
         status: 0,
         text: RESIZE,
     },
+    // What -o may say, whatever else is said. No file is needed, and any number is one.
+    Case {
+        words: &["create", "-f", "qcow2", "-o", "help"],
+        status: 0,
+        text: QCOW2_SETTINGS,
+    },
+    Case {
+        words: &[
+            "convert",
+            "-Oqcow2",
+            "-ocluster_size=3k,?,compat=9",
+            "a",
+            "-S8k",
+        ],
+        status: 0,
+        text: QCOW2_SETTINGS,
+    },
+    Case {
+        words: &[
+            "measure", "-O", "qcow2", "-o", "help", "-o", "no=1", "a", "b", "c",
+        ],
+        status: 0,
+        text: QCOW2_SETTINGS,
+    },
+    Case {
+        words: &["create", "-o", "help", "-b", "base", "a", "1G"],
+        status: 0,
+        text: "There are no options for raw.\n",
+    },
+    // The help of the command and the version beat it.
+    Case {
+        words: &["create", "-o", "help", "-h"],
+        status: 0,
+        text: CREATE,
+    },
+    Case {
+        words: &["convert", "-Oqcow2", "-ohelp", "-V"],
+        status: 0,
+        text: "imago-img 0.2.0",
+    },
 ];
+
+const QCOW2_SETTINGS: &str = "Supported qcow2 options:
+  cluster_size=<size>    - Cluster size: a power of two, 512 to 2M (default 64k)
+  compat=<str>           - Format version: 0.10 or v2, 1.1 or v3 (default 1.1)
+  compression_type=<str> - Only zlib is accepted
+  extended_l2=<bool (on/off)> - Only off is accepted
+  lazy_refcounts=<bool (on/off)> - Only off is accepted
+  preallocation=<str>    - off or metadata: all tables are written (default off)
+  refcount_bits=<num>    - Only 16 is accepted
+";
 
 const GENERAL: &str = "Describe, list, check, compare, convert and make disk images
 
@@ -192,7 +242,7 @@ usage: imago-img convert [-f FMT] [-O FMT] [-o OPT=V] [--force] [-n] [-S SIZE]
 Options:
   -f FMT                The format of FILE: raw, vmdk or qcow2
   -O FMT                The format of OUT: raw or qcow2
-  -o OPT=V              Options of a qcow2 OUT, with commas between them
+  -o OPT=V              Options of OUT, with commas between; -o help lists them
       --force           Replace OUT if it exists
   -n                    Write into OUT, which exists
   -S SIZE               How many zeroes make a hole, 0 for none: 0 or 4k
@@ -222,7 +272,7 @@ usage: imago-img create [-f FMT] [-o OPT=V] [-b FILE] [-F FMT] [--force] [-q]
 
 Options:
   -f FMT                The format of OUT: raw or qcow2
-  -o OPT=V              Options of a qcow2 OUT, with commas between them
+  -o OPT=V              Options of OUT, with commas between; -o help lists them
   -b FILE               The backing file, by its name from OUT's folder
   -F FMT                The format of the backing file: raw, vmdk or qcow2
       --force           Replace OUT if it exists
@@ -246,7 +296,7 @@ usage: imago-img measure [-f FMT] [-O FMT] [-o OPT=V] [--size SIZE]
 Options:
   -f FMT                The format of FILE: raw, vmdk or qcow2
   -O FMT                The format of OUT: raw or qcow2
-  -o OPT=V              Options of a qcow2 OUT, with commas between them
+  -o OPT=V              Options of OUT, with commas between; -o help lists them
       --size SIZE       Measure an empty disk: a size such as 64M
       --output OFMT     What is printed: human or json
       --json            The same as --output=json

@@ -3,7 +3,7 @@
 
 use super::set_up::{Case, check_cases};
 
-static CASES: [Case; 51] = [
+static CASES: [Case; 54] = [
     Case {
         words: &[],
         status: 1,
@@ -173,6 +173,23 @@ static CASES: [Case; 51] = [
         status: 1,
         text: "-o takes compat=0.10 or 1.1, cluster_size=512 to 2M and preallocation=off or \
             metadata, not \"\"; see imago-img create --help",
+    },
+    // Help on -o is asked for by that word alone, and of a format that can be made.
+    Case {
+        words: &["create", "-fqcow2", "-o", "help=1", "a", "1G"],
+        status: 1,
+        text: "-o takes compat=0.10 or 1.1, cluster_size=512 to 2M and preallocation=off or \
+            metadata, not \"help=1\"; see imago-img create --help",
+    },
+    Case {
+        words: &["convert", "-O", "vmdk", "-o", "help"],
+        status: 1,
+        text: "-O takes raw or qcow2, not \"vmdk\"; see imago-img convert --help",
+    },
+    Case {
+        words: &["info", "-o", "help", "a"],
+        status: 1,
+        text: "info has no option \"-o\"; see imago-img info --help",
     },
     Case {
         words: &["create", "-fqcow2", "-b", "base", "a"],

@@ -3,7 +3,7 @@
 
 use imago_words::command::{Backing, Command, Measured, Opening, Output};
 use imago_words::format::Format;
-use imago_words::help::{Help, VERSION};
+use imago_words::help::{Help, SettingsHelp, VERSION};
 use imago_words::settings::NewFormat;
 use std::alloc::{AllocError, Global};
 use std::process::Abort;
@@ -63,6 +63,7 @@ fn shown(alloc: Global, command: Command<'_>) -> Result<String, AllocError> {
     match command {
         Command::Help(kind) => format!(in alloc; "{}", Help(kind)),
         Command::Version => format!(in alloc; "imago-img {VERSION}"),
+        Command::Settings(format) => format!(in alloc; "{}", SettingsHelp(format)),
         Command::Info(info) => {
             let rules = opening(alloc, info.opening)?;
             let (format, output) = (format(info.format), output(info.output));

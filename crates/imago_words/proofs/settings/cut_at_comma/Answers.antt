@@ -1,8 +1,6 @@
 -- SPDX-License-Identifier: MIT
-use Rattle.std.proofs.Common.{◌∙◌, ap, Some, None, rules, refl}
+use Rattle.std.proofs.Common.{rules}
 use Rattle.std.proofs.lemmas.Str.Pattern.{split_parts}
-use Rattle.std.specs.Prelude.{Option, MatchOption}
-use Rattle.imago_words.specs.Settings.{texts_of}
 use Rattle.imago_words.proofs.SettingSteps.{cut_texts}
 use Rattle.imago_words.proofs.settings.cut_at_comma.Goals as goal
 
