@@ -6,6 +6,7 @@ ghost use Rattle.imago_img_checks.specs.VettedParts.{is_of_file, is_told, IsTold
 use imago_formats::probe::Probed;
 use imago_images::format::ImageFormat;
 use imago_img_files::failure::{Failure, OpenError, Reason};
+use imago_img_files::sparse::SparseType;
 use imago_qcow2::fault::HeaderFault;
 use imago_storage::error;
 use std::alloc::{AllocError, Global};
@@ -103,6 +104,9 @@ pub enum Fault {
     /// That it is a descriptor.
     #[error("it is a VMDK descriptor, whose lines QEMU reads in another way")]
     Descriptor,
+    /// That it describes an image of that type, whose extents are sparse files.
+    #[error("its descriptor says the type {0}, which isn't supported")]
+    SparseType(SparseType),
     /// An extent in the file of that name.
     #[error("its extent is {0:?}")]
     Extent(String),
@@ -226,7 +230,7 @@ impl Fault {
             Fault::Seen(None) => Kind::TwoFormats,
             Fault::Descriptor => Kind::Descriptor,
             Fault::Extent(_) | Fault::ExtentOfLongName(_) => Kind::Extent,
-            Fault::NoAccess => Kind::Feature,
+            Fault::NoAccess | Fault::SparseType(_) => Kind::Feature,
             Fault::Line(cause) | Fault::Text(cause) => {
                 kind_of_error(*cause).unwrap_or(Kind::Invalid)
             }

@@ -7,6 +7,7 @@ use imago_file::host::HostFile;
 use imago_images::longest::descriptor_text;
 use imago_images::recognised::length_of;
 use imago_img_files::failure::Failure;
+use imago_img_files::sparse::sparse_type;
 use imago_storage::error::Error;
 use imago_vmdk::descriptor;
 use imago_vmdk::line::{Accepted, Extent, Line, verdict};
@@ -31,6 +32,9 @@ pub fn tell_vmdk<F: HostFile>(
         return Ok(());
     }
     let text = descriptor_text(alloc, path, file)?;
+    if let Some(kind) = sparse_type(&text) {
+        told.findings.add(Fault::SparseType(kind), None)?;
+    }
     let accepted_all = tell_lines(alloc, accepted, &text, &mut told.findings)?;
     match descriptor::read(alloc, accepted, &text) {
         Ok(described) => {

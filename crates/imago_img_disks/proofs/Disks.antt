@@ -55,7 +55,7 @@ begun_ended None = refl
 begun_ended (Some a) =
     let back : a.unfinished + 1 - 1 ≡ a.unfinished = omega arith in
     let counted : ℕ → Option Around =
-    λ n. Some (record { there = a.there; unfinished = n; beside = a.beside }) in
+    λ n. Some (record a { unfinished = n }) in
     ap counted back
 
 module _ {D St : Type 0} (view : D → View St) (how : Opening) where

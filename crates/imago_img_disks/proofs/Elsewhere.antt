@@ -1,7 +1,8 @@
 -- Files that no storage of an image has the path of, by its layers, and what they aren't then.
 -- SPDX-License-Identifier: MIT
-use Rattle.std.proofs.Common.{◌≡◌, ℕ, ◌+◌, ◌<◌, ◌⊎◌, ◌||◌, ⊎_elim, Bool, false, List, [], ◌∷◌, Option, Some, None, Result, Ok, Err, IfSome, OnOk, refl, sym, ap, ◌∙◌, subst, map, length, arith, Box, Global}
+use Rattle.std.proofs.Common.{◌≡◌, ℕ, ◌+◌, ◌<◌, ◌⊎◌, ◌||◌, ⊎_elim, Bool, true, false, List, [], ◌∷◌, Option, Some, None, Result, Ok, Err, IfSome, OnOk, refl, sym, ap, ◌∙◌, subst, map, length, arith, Box, Global}
 use Rattle.std.specs.Prelude.{slice_index_or}
+use Rattle.std.proofs.lemmas.Bool.{true≢false}
 use Rattle.imago_drivers.specs.View.{Stores, View}
 use Rattle.imago_access.specs.declared.access.FormatAccess.{FormatAccess, FormatAccess', Held-FormatAccess-backing, None', Some', out-FormatAccess, is-FormatAccess', back-FormatAccess-backing}
 use Rattle.imago_access.specs.Chain.{driver, backing, unboxed}
@@ -14,7 +15,8 @@ use Rattle.imago_images.specs.ImageFiles.{AreNamed, HasFiles, HasStorages, HasSt
 use Rattle.imago_images.specs.Way.{identity, is_among}
 use Rattle.imago_words.specs.declared.command.Backing.{Backing}
 use Rattle.imago_words.specs.declared.command.Create.{Create}
-use Rattle.imago_img_disks.specs.LeftOvers.{AreElsewhere, IsElsewhere, IsElsewhereBelow, IsElsewhereIn, IsApart, IsApartBelow, IsNoSource, IsNoSourceBelow}
+use Rattle.imago_img_disks.specs.LeftOvers.{AreElsewhere, IsElsewhere, IsElsewhereAt, IsElsewhereBelow, IsElsewhereIn, IsApart, IsApartBelow, IsNoSource, IsNoSourceAt, IsNoSourceAtBelow, IsNoSourceBelow, IsUntouched}
+use Rattle.imago_img_files.specs.Files.{Around}
 use Rattle.imago_disk.specs.Files.{is_one_file}
 use Rattle.imago_img_files.specs.Openings.{how_by}
 
@@ -162,6 +164,67 @@ module _ {D St : Type 0} (view : D → View St) (how : Opening) (known : Option 
   no_source (Ok a) by has elsewhere = one_source known statuses by has elsewhere
   no_source (Err e) by has elsewhere = tt
 
+-- where nothing is there, it is elsewhere; and what is there is by what it is
+module _ {D St : Type 0} (view : D → View St) (x : FormatAccess D) (path : List ℕ) where
+  pub none_there :
+      (statuses : Option (List ℕ → FileStatus)) (around : Option Around) → IfSome around (λ a. a.there path ≡ false)
+      → IsElsewhereAt view statuses around path x
+  none_there statuses None none = tt
+  none_there statuses (Some a) none = λ yes. absurd (true≢false (sym yes ∙ none))
+
+  pub told_there :
+      (known : Option (List ℕ → FileStatus)) (there : FileStatus) (around : Option Around)
+      → IfSome known (λ status_of. there ≡ status_of path)
+      → IfSome known (λ s. IsElsewhere view s (identity there) x)
+      → IsElsewhereAt view known around path x
+  told_there known there None told elsewhere = tt
+  told_there None there (Some a) told elsewhere = λ yes. tt
+  told_there (Some s) there (Some a) told elsewhere = λ yes.
+      subst (λ (f : FileStatus). IsElsewhere view s (identity f) x) told elsewhere
+
+  pub is_there :
+      {A E : Type 0} (statuses : Option (List ℕ → FileStatus)) (r : Result A E) (there : FileStatus)
+      (around : Option Around) → IfSome statuses (λ status_of. there ≡ status_of path)
+      → OnOk r (IfSome statuses (λ s. IsElsewhere view s (identity there) x))
+      → OnOk r (IsElsewhereAt view statuses around path x)
+  is_there statuses (Ok a) there around told elsewhere = told_there statuses there around told elsewhere
+  is_there statuses (Err e) there around told elsewhere = tt
+
+-- what a path leads to isn't one of the files of an opened image
+module _ {D St : Type 0} (view : D → View St) (how : Opening) (known : Option (List ℕ → List ℕ))
+    (from to : List ℕ) (format : ImageFormat) (x : FormatAccess D) where
+  pub source_at :
+      (statuses : Option (List ℕ → FileStatus)) (around : Option Around)
+      → IfSome known (λ files. IsFormatBy how.format from (files from) format)
+      → IfSome known (λ files. HasFiles view how.accepted files from format x)
+      → IsElsewhereAt view statuses around to x → IsNoSourceAt how known statuses around from to
+  source_at statuses None by has elsewhere = tt
+  source_at None (Some a) by has elsewhere = λ yes. tt
+  source_at (Some s) (Some a) by has elsewhere = λ yes.
+      one_source view how known (Some s) from (identity (s to)) format x known (Some s) by has (elsewhere yes)
+
+-- what holds in any case holds where nothing is refused
+pub in_any_case : {A E : Type 0} (r : Result A E) (P : Type 0) → P → OnOk r P
+in_any_case (Ok a) P p = p
+in_any_case (Err e) P p = tt
+
+-- what is none of the files of an image once an unfinished file is removed, or isn't there, was none
+-- of them before
+pub outside_first :
+    {A E : Type 0} (r : Result A E)
+    (IsSo : Option (List ℕ → FileStatus) → Option (List ℕ → List ℕ) → Option Around → Type 0)
+    (statuses mid : Option (List ℕ → FileStatus)) (old cleared : Option (List ℕ → List ℕ))
+    (before left : Option Around)
+    → IsUntouched statuses mid old cleared before left ⊎ IsSo statuses old before
+    → OnOk r (IsSo mid cleared left) → OnOk r (IsSo statuses old before)
+outside_first (Err e) IsSo statuses mid old cleared before left tested so = tt
+outside_first (Ok a) IsSo statuses mid old cleared before left tested so = ⊎_elim
+    (λ (s, f, a). subst (λ (y : Option (List ℕ → FileStatus)). IsSo y old before) s
+    (subst (λ (y : Option (List ℕ → List ℕ)). IsSo mid y before) f
+    (subst (λ (y : Option Around). IsSo mid cleared y) a so)))
+    (λ was. was)
+    tested
+
 -- what an unfinished file isn't, by what it is
 module _ (known : Option (List ℕ → List ℕ)) (statuses : Option (List ℕ → FileStatus)) (status : FileStatus) where
   pub apart :
@@ -192,3 +255,14 @@ pub no_source_below :
 no_source_below r c b path how known statuses file e f h =
     subst (λ (o : Opening). OnOk r (IsNoSource o known statuses (path_beside c.target.now b.file.now) file)) f
     (subst (λ (p : List ℕ). OnOk r (IsNoSource how known statuses p file)) e h)
+
+-- nor is what its path leads to
+pub no_source_at_below :
+    {A E : Type 0} (r : Result A E) (c : Create) (b : Backing) (path : List ℕ) (how : Opening)
+    (known : Option (List ℕ → List ℕ)) (statuses : Option (List ℕ → FileStatus)) (around : Option Around)
+    → path ≡ path_beside c.target.now b.file.now → how ≡ how_by (Some b.format) c.opening
+    → OnOk r (IsNoSourceAt how known statuses around path c.target.now)
+    → OnOk r (IsNoSourceAtBelow c (Some b) known statuses around)
+no_source_at_below r c b path how known statuses around e f h =
+    subst (λ (o : Opening). OnOk r (IsNoSourceAt o known statuses around (path_beside c.target.now b.file.now) c.target.now)) f
+    (subst (λ (p : List ℕ). OnOk r (IsNoSourceAt how known statuses around p c.target.now)) e h)

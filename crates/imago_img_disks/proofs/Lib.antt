@@ -6,5 +6,6 @@ mod Overwritten
 mod Resizes
 mod TextSteps
 mod Cleared
+mod HeldSteps
 mod Elsewhere
 mod Opened

@@ -1,11 +1,13 @@
 -- What becomes of a raw image that gets another size.
 -- SPDX-License-Identifier: MIT
 use Rattle.std.specs.Prelude.{◌≡◌, ℕ, ◌+◌, ◌-◌, ◌<◌, ◌≤◌, false, List, Option, Some, None}
-use Rattle.std.specs.Prelude.{length, option_map}
+use Rattle.std.specs.Prelude.{IfSome, length, option_map}
 use Rattle.std.specs.Int.{next_multiple_of}
 use Rattle.imago_words.specs.declared.command.NewSize.{NewSize}
 use Rattle.imago_words.specs.declared.command.NewSize.TheVariants as N
 use Rattle.imago_words.specs.declared.command.Resize.{Resize}
+use Rattle.imago_images.specs.declared.files.FileKind.TheVariants as Kind
+use Rattle.imago_images.specs.declared.files.FileStatus.{FileStatus}
 use Rattle.imago_images.specs.declared.format.ImageFormat.TheVariants.{Raw}
 use Rattle.imago_images.specs.Formats.{IsFormatBy}
 use Rattle.imago_img_files.specs.Files.{IsResized}
@@ -32,6 +34,10 @@ abbrev pub IsNewSize : Resize → (List ℕ → List ℕ) → ℕ → Type 0
 IsNewSize r files size =
     IsFormatBy (option_map image_format r.format) r.file.now (files r.file.now) Raw
     × IsSizeAsked r (raw_size (length (files r.file.now))) size
+
+-- a path leads to a regular file, where that is told
+abbrev pub IsRegular : Option (List ℕ → FileStatus) → List ℕ → Type 0
+IsRegular statuses path = IfSome statuses (λ status_of. (status_of path).kind ≡ Kind.Regular)
 
 -- The file of a raw image has such a length now: its bytes were cut there, or zeroes were put behind
 -- them; all other files have what they had, where that is told.

@@ -1,34 +1,40 @@
 // SPDX-License-Identifier: MIT
 //! An image's disk, written to a raw file.
-ghost use Rattle.std.specs.Prelude.{◌≡◌, OnOk, OnErr, IfOk, IfSome, IsOk, option_map};
+ghost use Rattle.std.specs.Prelude.{◌≡◌, ◌⊎◌, OnOk, OnErr, IfOk, IfSome, IsOk, option_map};
 ghost use Rattle.imago_disk.specs.Shows.{HasSize};
 ghost use Rattle.imago_img_disks.specs.Disks.{IsDiskAppended, IsDiskPartlyAppended};
 ghost use Rattle.imago_img_disks.specs.Disks.{IsConverted};
 ghost use Rattle.imago_img_files.specs.Files.{ended, with_file, IsMade, IsSoOnceCleared};
-ghost use Rattle.imago_img_files.specs.Files.{IsWhole};
-ghost use Rattle.imago_img_disks.specs.LeftOvers.{IsApart, IsNoSource};
+ghost use Rattle.imago_img_files.specs.Files.{IfHeld, IsUnheld, IsWhole};
+ghost use Rattle.imago_disk.specs.Disk.{image_of};
+ghost use Rattle.imago_img_disks.specs.LeftOvers.{IsApart, IsElsewhereAt, IsNoSource};
+ghost use Rattle.imago_img_disks.specs.LeftOvers.{IsNoSourceAt, IsUntouched};
 ghost use Rattle.imago_images.specs.Way.{identity};
 
+use crate::held::test_unheld;
 use crate::image::{CHUNK, FileDisk, has_file, not_read, opened, readable_size};
 use crate::progress::Progress;
-use crate::short::warn;
-use crate::unfinished::{left_by, remove_left_over, test_apart};
+use crate::short::{refuse_cut, warn};
+use crate::unfinished::{left_by, remove_left_over, test_apart, test_elsewhere};
+use imago_any_driver::any::AnyDriver;
 use imago_copy::copy::CopyError;
 use imago_copy::target::Target;
+use imago_drivers::drivers::FormatDriverInstance;
+use imago_images::file::PathStorage;
 use imago_images::opening::Opening;
 use imago_img_files::failure::{Failure, Reason, Refusal};
 use imago_img_files::host::{FileKind, FileStatus, Host, LeftOver, Making};
-use std::io::{ErrorKind, Write};
+use std::io::Write;
 
 /// Writes the disk of an image to a raw file of that path. What the image's files have says what
 /// the new file then has: the image's disk, byte for byte. What is known to be zero there stays a
 /// hole, unless each byte is to be written.
 ///
 /// The path may be taken only where what it leads to is to be replaced, and never by a file of the
-/// image. The files of the image are looked at before the new one is made. An unfinished file that
-/// an earlier copy to that path left is refused, or removed where the path's file may be replaced.
-/// Refused, no other file was made or changed. It warns of files of the image that end before bytes
-/// of the disk do.
+/// image, nor of one that QEMU holds. The files of the image are looked at before the new one is
+/// made. An unfinished file that an earlier copy to that path left is refused, or removed where the
+/// path's file may be replaced. Refused, no other file was made or changed. It warns of files of the
+/// image that end before bytes of the disk do.
 pub fn convert_image<H: Host, E: Write>(
     host: &mut H,
     from: &str,
@@ -46,13 +52,18 @@ pub fn convert_image<H: Host, E: Write>(
         (H.around host.old) to.now (IsApart how (H.contents host.old) (H.statuses host.old)
         (H.left_overs host.old) from.now to.now)
         (λ files around. (H.contents host.new ≡ files) × (H.around host.new ≡ around))) }
+    ensures unheld { OnOk result (IsUnheld (H.around host.old) to.now) }
+    ensures outside { OnOk result (IsNoSourceAt how (H.contents host.old) (H.statuses host.old)
+        (H.around host.old) from.now to.now) }
+    ensures kept { OnErr result (IfHeld (H.around host.old) to.now
+        ((H.contents host.new ≡ H.contents host.old) × (H.around host.new ≡ H.around host.old))) }
 {
     clear(host, from, to, how, making.replace)?;
     convert_beside(host, from, to, how, making, show, warnings)
 }
 
 /// Removes the unfinished file that a copy to that path left, if the path's file may be replaced,
-/// and nothing else speaks against the copy.
+/// and nothing else speaks against the copy, such as that QEMU holds that file.
 pub(crate) fn clear<H: Host>(
     host: &mut H,
     from: &str,
@@ -60,10 +71,16 @@ pub(crate) fn clear<H: Host>(
     how: Opening,
     replace: bool,
 ) -> Result<(), Failure>
-    ensures { IsSoOnceCleared replace (H.contents host.old) (H.around host.old) to.now
+    ensures cleared { IsSoOnceCleared replace (H.contents host.old) (H.around host.old) to.now
         (IsApart how (H.contents host.old) (H.statuses host.old) (H.left_overs host.old) from.now
         to.now)
         (λ files around. (H.contents host.new ≡ files) × (H.around host.new ≡ around)) }
+    ensures kept { IfHeld (H.around host.old) to.now
+        ((H.contents host.new ≡ H.contents host.old) × (H.around host.new ≡ H.around host.old)) }
+    ensures tested { OnOk result (IsUntouched (H.statuses host.old) (H.statuses host.new)
+        (H.contents host.old) (H.contents host.new) (H.around host.old) (H.around host.new)
+        ⊎ IsNoSourceAt how (H.contents host.old) (H.statuses host.old) (H.around host.old) from.now
+        to.now) }
 {
     if !replace {
         return Ok(());
@@ -72,6 +89,7 @@ pub(crate) fn clear<H: Host>(
         return Ok(());
     };
     test_removal(&*host, from, to, how, &left)?;
+    test_unheld(&*host, to)?;
     remove_left_over(host, to)
 }
 
@@ -83,11 +101,14 @@ fn test_removal<H: Host>(
     how: Opening,
     left: &LeftOver,
 ) -> Result<(), Failure>
-    ensures { OnOk result (IsNoSource how (H.contents host.now) (H.statuses host.now) from.now
+    ensures apart { OnOk result (IsNoSource how (H.contents host.now) (H.statuses host.now) from.now
         (identity left.now.status)) }
+    ensures outside { OnOk result (IsNoSourceAt how (H.contents host.now) (H.statuses host.now)
+        (H.around host.now) from.now to.now) }
 {
     let disk = opened(host, from, how)?;
     readable_size(host.alloc(), from, &disk)?;
+    refuse_cut(host.alloc(), from, how, &disk)?;
     test_target(host, &disk, to, true)?;
     test_apart(host, &disk, left)
 }
@@ -107,8 +128,12 @@ fn convert_beside<H: Host, E: Write>(
         (H.contents host.new) (H.around host.old) (H.around host.new) from.now to.now) }
     ensures same { OnErr result (H.contents host.new ≡ H.contents host.old) }
     ensures refused { OnErr result (H.around host.new ≡ H.around host.old) }
+    ensures unheld { OnOk result (IsUnheld (H.around host.old) to.now) }
+    ensures outside { OnOk result (IsNoSourceAt how (H.contents host.old) (H.statuses host.old)
+        (H.around host.old) from.now to.now) }
 {
     let size = tested_size(&*host, from, to, how, making.replace, warnings)?;
+    test_unheld(&*host, to)?;
     match host.create(to, size, making) {
         Ok(target) => {
             let (target, filled) = fill_shown(&*host, from, to, how, target, size, show);
@@ -128,23 +153,46 @@ fn tested_size<H: Host, E: Write>(
     replace: bool,
     warnings: &mut E,
 ) -> Result<u64, Failure>
-    ensures { IfOk result (λ size. IfSome (H.contents host.now)
+    ensures size { IfOk result (λ size. IfSome (H.contents host.now)
         (λ files. HasSize how files from.now size)) }
+    ensures outside { OnOk result (IsNoSourceAt how (H.contents host.now) (H.statuses host.now)
+        (H.around host.now) from.now to.now) }
 {
     let disk = opened(host, from, how)?;
     let (size, short) = readable_size(host.alloc(), from, &disk)?;
-    test_place(host, &disk, to, replace)?;
+    test_copy(host, &disk, from, to, how, replace)?;
     let _ = warn(&short, warnings);
     Ok(size)
 }
 
-/// Whether a new file of an image may be made for that path.
-pub(crate) fn test_place<H: Host>(
+/// Whether the disk of an image, which was opened so, may be written to a new file of that path.
+pub(crate) fn test_copy<'a, H: Host>(
     host: &H,
-    disk: &FileDisk<'_, H>,
+    disk: &FileDisk<'a, H>,
+    from: &str,
+    to: &str,
+    how: Opening,
+    replace: bool,
+) -> Result<(), Failure>
+    ensures { OnOk result (IsElsewhereAt
+        ⟦<AnyDriver<PathStorage<'a, H>> as FormatDriverInstance>⟧.view (H.statuses host.now)
+        (H.around host.now) to.now (image_of disk.now)) }
+{
+    refuse_cut(host.alloc(), from, how, disk)?;
+    test_place(host, disk, to, replace)
+}
+
+/// Whether a new file of an image may be made for that path.
+pub(crate) fn test_place<'a, H: Host>(
+    host: &H,
+    disk: &FileDisk<'a, H>,
     to: &str,
     replace: bool,
-) -> Result<(), Failure> {
+) -> Result<(), Failure>
+    ensures { OnOk result (IsElsewhereAt
+        ⟦<AnyDriver<PathStorage<'a, H>> as FormatDriverInstance>⟧.view (H.statuses host.now)
+        (H.around host.now) to.now (image_of disk.now)) }
+{
     test_target(host, disk, to, replace)?;
     test_left_over(host, disk, to, replace)
 }
@@ -221,21 +269,23 @@ pub(crate) fn end<H: Host>(
 }
 
 /// Whether the disk of an image may be written to a file of that path.
-pub(crate) fn test_target<H: Host>(
+pub(crate) fn test_target<'a, H: Host>(
     host: &H,
-    disk: &FileDisk<'_, H>,
+    disk: &FileDisk<'a, H>,
     to: &str,
     replace: bool,
-) -> Result<(), Failure> {
-    let there = match host.status(to) {
-        Ok(there) => there,
-        Err(cause) if cause.kind() == ErrorKind::NotFound => return Ok(()),
-        Err(cause) => return Err(Failure::of_file(host.alloc(), to, Reason::System(cause))),
+) -> Result<(), Failure>
+    ensures { OnOk result (IsElsewhereAt
+        ⟦<AnyDriver<PathStorage<'a, H>> as FormatDriverInstance>⟧.view (H.statuses host.now)
+        (H.around host.now) to.now (image_of disk.now)) }
+{
+    let Some(there) = Failure::or_system(host.alloc(), to, host.found(to))? else {
+        return Ok(());
     };
-    match target_fault(there, has_file(disk, there), replace) {
-        Some(refusal) => Err(Failure::of_target(host.alloc(), to, refusal)),
-        None => Ok(()),
+    if let Some(refusal) = target_fault(there, has_file(disk, there), replace) {
+        return Err(Failure::of_target(host.alloc(), to, refusal));
     }
+    test_elsewhere(host, disk, to, there, Refusal::IsSource)
 }
 
 /// Whether no unfinished file stands beside a path, or one that may be removed.

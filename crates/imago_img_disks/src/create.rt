@@ -1,6 +1,6 @@
 // SPDX-License-Identifier: MIT
 //! New images in which nothing was written.
-ghost use Rattle.std.specs.Prelude.{◌≡◌, [], OnOk, OnErr, IfOk, IfSome, true, false, replicate};
+ghost use Rattle.std.specs.Prelude.{◌≡◌, [], OnOk, OnErr, IfOk, IfSome, true, false, replicate, ◌⊎◌};
 ghost use Rattle.std.specs.Int.{next_multiple_of};
 ghost use Rattle.imago_drivers.specs.Place.{Byte};
 ghost use Rattle.imago_qcow2_new.specs.Image.{IsNewFile};
@@ -9,14 +9,17 @@ ghost use Rattle.imago_words.specs.declared.settings.NewFormat.TheVariants as Ne
 ghost use Rattle.imago_access.specs.Chain.{driver};
 ghost use Rattle.imago_disk.specs.Disk.{image_of};
 ghost use Rattle.imago_disk.specs.Shows.{HasSize};
-ghost use Rattle.imago_img_files.specs.Files.{IsSoOnceCleared};
-ghost use Rattle.imago_img_disks.specs.LeftOvers.{IsApartBelow, IsNoSource, IsNoSourceBelow};
+ghost use Rattle.imago_img_files.specs.Files.{IfHeld, IsSoOnceCleared, IsUnheld};
+ghost use Rattle.imago_img_disks.specs.LeftOvers.{IsApartBelow, IsElsewhereAt, IsNoSource};
+ghost use Rattle.imago_img_disks.specs.LeftOvers.{IsNoSourceAt, IsNoSourceAtBelow};
+ghost use Rattle.imago_img_disks.specs.LeftOvers.{IsNoSourceBelow, IsUntouched};
 ghost use Rattle.imago_images.specs.Way.{identity};
 ghost use Rattle.imago_img_disks.specs.NewFiles.{HasNamesBelow, IsEmptyFile, IsFilledWith};
 ghost use Rattle.imago_img_disks.specs.NewFiles.{IsNewImage, IsNewlyMade, IsPlanned, IsSizeBelow};
 ghost use Rattle.imago_img_disks.specs.NewFiles.{format_by, format_text};
 
 use crate::convert::{end, target_fault, test_place, test_target};
+use crate::held::test_unheld;
 use crate::image::{CHUNK, FileDisk, opened};
 use crate::new_qcow2::{new_format, of_format};
 use crate::unfinished::{left_by, remove_left_over, test_apart};
@@ -37,16 +40,15 @@ use imago_words::command::{Backing as Below, Create};
 use imago_words::format::Format;
 use imago_words::settings::{NewFormat, Settings};
 use std::alloc::Global;
-use std::io::ErrorKind;
 
 /// Makes a new image, in which nothing was written: a raw file of zeroes, or a qcow2 file that
 /// shows zeroes or its layer below. Its size is the one that was said, or that of the layer below,
 /// rounded up to a multiple of 512 bytes.
 ///
 /// The layer below is opened. The path may be taken only where what it leads to is to be replaced,
-/// and never by a file of the layer below. An unfinished file that an earlier command to that path
-/// left is refused, or removed where the path's file may be replaced. Refused, no other file was
-/// made or changed.
+/// and never by a file of the layer below, nor of one that QEMU holds. An unfinished file that an
+/// earlier command to that path left is refused, or removed where the path's file may be replaced.
+/// Refused, no other file was made or changed.
 pub fn create_image<H: Host>(host: &mut H, asked: Create<'_>) -> Result<(), Failure>
     ensures created { OnOk result (IsSoOnceCleared asked.entry.force (H.contents host.old)
         (H.around host.old) asked.entry.target.now (IsApartBelow asked.entry asked.entry.backing
@@ -57,18 +59,29 @@ pub fn create_image<H: Host>(host: &mut H, asked: Create<'_>) -> Result<(), Fail
         (H.around host.old) asked.entry.target.now (IsApartBelow asked.entry asked.entry.backing
         (H.contents host.old) (H.statuses host.old) (H.left_overs host.old))
         (λ files around. (H.contents host.new ≡ files) × (H.around host.new ≡ around))) }
+    ensures unheld { OnOk result (IsUnheld (H.around host.old) asked.entry.target.now) }
+    ensures outside { OnOk result (IsNoSourceAtBelow asked.entry asked.entry.backing
+        (H.contents host.old) (H.statuses host.old) (H.around host.old)) }
+    ensures kept { OnErr result (IfHeld (H.around host.old) asked.entry.target.now
+        ((H.contents host.new ≡ H.contents host.old) × (H.around host.new ≡ H.around host.old))) }
 {
     clear(host, asked)?;
     create_beside(host, asked)
 }
 
 /// Removes the unfinished file that a command to that path left, if the path's file may be
-/// replaced, and nothing else speaks against the new one.
+/// replaced, and nothing else speaks against the new one, such as that QEMU holds that file.
 fn clear<H: Host>(host: &mut H, asked: Create<'_>) -> Result<(), Failure>
-    ensures { IsSoOnceCleared asked.entry.force (H.contents host.old) (H.around host.old)
+    ensures cleared { IsSoOnceCleared asked.entry.force (H.contents host.old) (H.around host.old)
         asked.entry.target.now (IsApartBelow asked.entry asked.entry.backing
         (H.contents host.old) (H.statuses host.old) (H.left_overs host.old))
         (λ files around. (H.contents host.new ≡ files) × (H.around host.new ≡ around)) }
+    ensures kept { IfHeld (H.around host.old) asked.entry.target.now
+        ((H.contents host.new ≡ H.contents host.old) × (H.around host.new ≡ H.around host.old)) }
+    ensures tested { OnOk result (IsUntouched (H.statuses host.old) (H.statuses host.new)
+        (H.contents host.old) (H.contents host.new) (H.around host.old) (H.around host.new)
+        ⊎ IsNoSourceAtBelow asked.entry asked.entry.backing (H.contents host.old)
+        (H.statuses host.old) (H.around host.old)) }
 {
     if !asked.force {
         return Ok(());
@@ -77,6 +90,7 @@ fn clear<H: Host>(host: &mut H, asked: Create<'_>) -> Result<(), Failure>
         return Ok(());
     };
     test_removal(&*host, asked, asked.backing, &left)?;
+    test_unheld(&*host, asked.target)?;
     remove_left_over(host, asked.target)
 }
 
@@ -88,8 +102,10 @@ fn test_removal<H: Host>(
     below: Option<Below<'_>>,
     left: &LeftOver,
 ) -> Result<(), Failure>
-    ensures { OnOk result (IsNoSourceBelow asked.entry below.entry (H.contents host.now)
+    ensures apart { OnOk result (IsNoSourceBelow asked.entry below.entry (H.contents host.now)
         (H.statuses host.now) (identity left.now.status)) }
+    ensures outside { OnOk result (IsNoSourceAtBelow asked.entry below.entry (H.contents host.now)
+        (H.statuses host.now) (H.around host.now)) }
 {
     let Some(below) = below else {
         return test_free(host, asked.target, asked.force);
@@ -107,8 +123,10 @@ fn test_removal_above<H: Host>(
     to: &str,
     left: &LeftOver,
 ) -> Result<(), Failure>
-    ensures { OnOk result (IsNoSource how (H.contents host.now) (H.statuses host.now) path.now
+    ensures apart { OnOk result (IsNoSource how (H.contents host.now) (H.statuses host.now) path.now
         (identity left.now.status)) }
+    ensures outside { OnOk result (IsNoSourceAt how (H.contents host.now) (H.statuses host.now)
+        (H.around host.now) path.now to.now) }
 {
     let disk = opened(host, path, how)?;
     test_target(host, &disk, to, true)?;
@@ -123,8 +141,12 @@ fn create_beside<H: Host>(host: &mut H, asked: Create<'_>) -> Result<(), Failure
         asked.entry.target.now) }
     ensures same { OnErr result (H.contents host.new ≡ H.contents host.old) }
     ensures refused { OnErr result (H.around host.new ≡ H.around host.old) }
+    ensures unheld { OnOk result (IsUnheld (H.around host.old) asked.entry.target.now) }
+    ensures outside { OnOk result (IsNoSourceAtBelow asked.entry asked.entry.backing
+        (H.contents host.old) (H.statuses host.old) (H.around host.old)) }
 {
     let size = tested_size(&*host, asked)?;
+    test_unheld(&*host, asked.target)?;
     let making = Making {
         replace: asked.force,
         sparse: true,
@@ -229,7 +251,7 @@ pub(crate) fn planned(
 }
 
 /// The same, where only the file's format is told as a refusal.
-fn layout_over(
+pub(crate) fn layout_over(
     alloc: Global,
     size: u64,
     settings: Settings,
@@ -303,8 +325,10 @@ fn put_new<T: Target>(
 
 /// The size of a new image, in bytes, that may be made for its path.
 fn tested_size<H: Host>(host: &H, asked: Create<'_>) -> Result<u64, Failure>
-    ensures { IfOk result (λ size. IfSome (H.contents host.now)
+    ensures size { IfOk result (λ size. IfSome (H.contents host.now)
         (λ files. IsPlanned asked.entry files size)) }
+    ensures outside { OnOk result (IsNoSourceAtBelow asked.entry asked.entry.backing
+        (H.contents host.now) (H.statuses host.now) (H.around host.now)) }
 {
     let below = size_below(host, asked, asked.backing)?;
     Ok(asked.size.unwrap_or(below))
@@ -317,8 +341,10 @@ fn size_below<H: Host>(
     asked: Create<'_>,
     below: Option<Below<'_>>,
 ) -> Result<u64, Failure>
-    ensures { IfOk result (λ size. IfSome (H.contents host.now)
+    ensures size { IfOk result (λ size. IfSome (H.contents host.now)
         (λ files. IsSizeBelow asked.entry below.entry files size)) }
+    ensures outside { OnOk result (IsNoSourceAtBelow asked.entry below.entry
+        (H.contents host.now) (H.statuses host.now) (H.around host.now)) }
 {
     let Some(below) = below else {
         test_free(host, asked.target, asked.force)?;
@@ -331,8 +357,10 @@ fn size_below<H: Host>(
 
 /// The size of the disk of the image of that path, in bytes, above which a new one may be made.
 fn size_at<H: Host>(host: &H, path: &str, how: Opening, asked: Create<'_>) -> Result<u64, Failure>
-    ensures { IfOk result (λ size. IfSome (H.contents host.now)
+    ensures size { IfOk result (λ size. IfSome (H.contents host.now)
         (λ files. HasSize how files path.now size)) }
+    ensures outside { OnOk result (IsNoSourceAt how (H.contents host.now) (H.statuses host.now)
+        (H.around host.now) path.now asked.entry.target.now) }
 {
     let disk = opened(host, path, how)?;
     let size = size_above(host, &disk, asked)?;
@@ -345,9 +373,12 @@ fn size_above<'a, H: Host>(
     disk: &FileDisk<'a, H>,
     asked: Create<'_>,
 ) -> Result<u64, Failure>
-    ensures { IfOk result (λ size. size
+    ensures size { IfOk result (λ size. size
         ≡ (⟦<AnyDriver<PathStorage<'a, H>> as FormatDriverInstance>⟧.view
         (driver (image_of disk.now))).size) }
+    ensures outside { OnOk result (IsElsewhereAt
+        ⟦<AnyDriver<PathStorage<'a, H>> as FormatDriverInstance>⟧.view (H.statuses host.now)
+        (H.around host.now) asked.entry.target.now (image_of disk.now)) }
 {
     test_place(host, disk, asked.target, asked.force)?;
     Ok(disk.size())
@@ -356,14 +387,10 @@ fn size_above<'a, H: Host>(
 /// Whether a new file that reads no other may be made for that path.
 fn test_free<H: Host>(host: &H, to: &str, replace: bool) -> Result<(), Failure> {
     let alloc = host.alloc();
-    match host.status(to) {
-        Ok(there) => {
-            if let Some(refusal) = target_fault(there, false, replace) {
-                return Err(Failure::of_target(alloc, to, refusal));
-            }
+    if let Some(there) = Failure::or_system(alloc, to, host.found(to))? {
+        if let Some(refusal) = target_fault(there, false, replace) {
+            return Err(Failure::of_target(alloc, to, refusal));
         }
-        Err(cause) if cause.kind() == ErrorKind::NotFound => {}
-        Err(cause) => return Err(Failure::of_file(alloc, to, Reason::System(cause))),
     }
     match Failure::or_system(alloc, to, host.left_over(to))? {
         Some(left) if !replace => Err(Failure::of_target(alloc, &left.path, Refusal::LeftOver)),

@@ -4,6 +4,7 @@ ghost use Rattle.std.specs.Prelude.{◌≡◌, ◌+◌, ◌<◌, ◌≤◌, leng
 ghost use Rattle.std.specs.Prelude.{IsErr, OnOk, MatchResult};
 ghost use Rattle.imago_access.specs.Chain.{driver};
 ghost use Rattle.imago_access.specs.Target.{target};
+ghost use Rattle.imago_storage.specs.Error.{IsExtRefusal};
 ghost use Rattle.imago_copy.specs.LayerRuns.{image_of as image_in, at_of, AreReady, AreLayerRuns};
 ghost use Rattle.imago_disk.specs.Disk.{image_of, format_of};
 ghost use Rattle.imago_images.specs.Formats.{IsFormatBy};
@@ -23,6 +24,7 @@ use imago_images::file::PathStorage;
 use imago_images::opening::Opening;
 use imago_img_files::failure::{Failure, OpenError, Reason};
 use imago_img_files::host::{FileStatus, Host};
+use imago_img_files::sparse::sparse_type_at;
 use imago_storage::error::Error;
 use std::alloc::Global;
 
@@ -72,20 +74,38 @@ fn or_not_opened<H: Host, T>(
     }
 }
 
-/// Why the image of a path isn't opened: by the first invalid entry of the file that has one.
+/// Why the image of a path isn't opened: by the first invalid entry of the file that has one, or by
+/// the type of a VMDK image, where it is one of those whose extents are sparse files.
 fn not_opened<H: Host>(host: &H, path: &str, cause: OpenError) -> Failure
     ensures { IsHostRefusal cause → IsHostFailure result }
 {
     if let OpenError::OfFile {
         path: file,
-        reason: Reason::Image(Error::InvalidData),
+        reason: Reason::Image(refused),
     } = &cause
     {
-        if let Some(fault) = invalid_entry_at(host, file) {
-            return Failure::of_entry(host.alloc(), file, fault);
+        if let Some(known) = known_refusal(host, file, *refused) {
+            return known;
         }
     }
     Failure::of_image(host.alloc(), path, cause)
+}
+
+/// Why the file of a path isn't opened, by what it has, where the driver of its format refused it.
+fn known_refusal<H: Host>(host: &H, file: &str, refused: Error) -> Option<Failure>
+    ensures { IfSome result (λ _. IsExtRefusal refused → ⊥) }
+{
+    match refused {
+        Error::InvalidData => {
+            let fault = invalid_entry_at(host, file)?;
+            Some(Failure::of_entry(host.alloc(), file, fault))
+        }
+        Error::Unsupported => {
+            let kind = sparse_type_at(host, file)?;
+            Some(Failure::of_sparse_type(host.alloc(), file, kind))
+        }
+        _ => None,
+    }
 }
 
 /// How many runs of a disk are looked for at a time.

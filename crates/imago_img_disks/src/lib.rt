@@ -6,6 +6,7 @@
 pub mod compare;
 pub mod convert;
 pub mod create;
+mod held;
 mod image;
 mod lines;
 pub mod map;

@@ -1,19 +1,18 @@
 // SPDX-License-Identifier: MIT
 //! How long the file of a new image would be.
-ghost use Rattle.std.specs.Prelude.{◌≡◌, ℕ, IfOk, IfSome, OnOk};
-ghost use Rattle.imago_qcow2_new.specs.declared.layout.Layout.{Layout};
-ghost use Rattle.imago_qcow2_new.specs.Layout.{IsLayoutOf, file_length};
+ghost use Rattle.std.specs.Prelude.{◌≡◌, IfOk, IfSome, OnOk};
 ghost use Rattle.imago_disk.specs.Shows.{IsImage};
-ghost use Rattle.imago_img_disks.specs.Measures.{IsMeasured};
-ghost use Rattle.imago_img_disks.specs.NewFiles.{format_by};
+ghost use Rattle.imago_img_disks.specs.Measures.{IsFullLength, IsMeasured};
 ghost use Rattle.imago_img_files.specs.Openings.{how_by};
 
-use crate::create::{planned, raw_length};
+use crate::create::{layout_over, planned, raw_length};
 use crate::image::{FileDisk, opened, readable_size};
-use crate::new_qcow2::{NewQcow2, layout_for, new_format};
+use crate::new_qcow2::{NewQcow2, layout_for, new_format, of_format};
 use imago_img_files::failure::Failure;
 use imago_img_files::host::Host;
 use imago_img_files::opening::how_to_open;
+use imago_qcow2_new::format::FormatError;
+use imago_qcow2_new::grown::grown_length;
 use imago_words::command::{Measure, Measured, Output};
 use imago_words::settings::{NewFormat, Settings};
 use std::alloc::Global;
@@ -115,17 +114,31 @@ fn lengths_of_size(alloc: Global, size: u64, format: NewFormat) -> Result<Length
     })
 }
 
-/// The length of a qcow2 file of a disk of that size in which all clusters are stored.
+/// The length of a qcow2 file of a disk of that size in which all clusters are stored. It is told
+/// too where no such file can be made, as `qemu-img` tells it: a new file is made then, and grows
+/// until it, or the table of its reference counts, is as long as can be.
 fn full_length(alloc: Global, path: &str, size: u64, settings: Settings) -> Result<u64, Failure>
-    ensures { IfOk result (λ n. (l : Layout) × IsLayoutOf (format_by settings) size l
-        × (n ≡ file_length l)) }
+    ensures { IfOk result (IsFullLength settings size) }
 {
     let all = Settings {
         preallocated: true,
         ..settings
     };
-    let layout = planned(alloc, path, size, all, None)?;
-    Ok(layout.file_length())
+    match layout_over(alloc, size, all, None) {
+        Ok(layout) => Ok(layout.file_length()),
+        Err(FormatError::TooLarge) => length_of_grown(alloc, path, size, settings),
+        Err(fault) => Err(of_format(alloc, path, fault)),
+    }
+}
+
+/// The same where no such file can be made.
+fn length_of_grown(alloc: Global, path: &str, size: u64, settings: Settings) -> Result<u64, Failure>
+    ensures { IfOk result (IsFullLength settings size) }
+{
+    match grown_length(size, settings.cluster_bits) {
+        Ok(length) => Ok(length),
+        Err(fault) => Err(of_format(alloc, path, fault)),
+    }
 }
 
 /// The lengths of a raw file of a disk of that size.

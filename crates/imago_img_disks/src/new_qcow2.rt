@@ -3,12 +3,13 @@
 ghost use Rattle.std.specs.Prelude.{◌≡◌, ℕ, [], OnOk, OnErr, IfOk, IfSome};
 ghost use Rattle.imago_qcow2_new.specs.Layout.{IsLayoutOf, file_length};
 ghost use Rattle.imago_qcow2_new.specs.Names.{HasNoNames};
-ghost use Rattle.imago_img_files.specs.Files.{IsSoOnceCleared};
-ghost use Rattle.imago_img_disks.specs.LeftOvers.{IsApart};
+ghost use Rattle.imago_img_files.specs.Files.{IfHeld, IsSoOnceCleared, IsUnheld};
+ghost use Rattle.imago_img_disks.specs.LeftOvers.{IsApart, IsNoSourceAt};
 ghost use Rattle.imago_img_disks.specs.NewFiles.{IsCopyBy, IsFilledWith, IsNewlyMade, IsQcow2Copy};
 ghost use Rattle.imago_img_disks.specs.NewFiles.{format_by};
 
-use crate::convert::{clear, end, test_place};
+use crate::convert::{clear, end, test_copy};
+use crate::held::test_unheld;
 use crate::image::{CHUNK, FileDisk, not_read, opened, readable_size};
 use crate::progress::Progress;
 use crate::short::warn;
@@ -75,6 +76,11 @@ pub fn convert_to_qcow2<H: Host, E: Write>(
         (H.around host.old) to.now (IsApart how (H.contents host.old) (H.statuses host.old)
         (H.left_overs host.old) from.now to.now)
         (λ files around. (H.contents host.new ≡ files) × (H.around host.new ≡ around))) }
+    ensures unheld { OnOk result (IsUnheld (H.around host.old) to.now) }
+    ensures outside { OnOk result (IsNoSourceAt how (H.contents host.old) (H.statuses host.old)
+        (H.around host.old) from.now to.now) }
+    ensures kept { OnErr result (IfHeld (H.around host.old) to.now
+        ((H.contents host.new ≡ H.contents host.old) × (H.around host.new ≡ H.around host.old))) }
 {
     clear(host, from, to, how, making.replace)?;
     convert_beside(host, from, to, how, new, making, show, warnings)
@@ -97,8 +103,12 @@ fn convert_beside<H: Host, E: Write>(
         (H.around host.new) to.now) }
     ensures same { OnErr result (H.contents host.new ≡ H.contents host.old) }
     ensures refused { OnErr result (H.around host.new ≡ H.around host.old) }
+    ensures unheld { OnOk result (IsUnheld (H.around host.old) to.now) }
+    ensures outside { OnOk result (IsNoSourceAt how (H.contents host.old) (H.statuses host.old)
+        (H.around host.old) from.now to.now) }
 {
     let layout = planned(&*host, from, to, how, new, making.replace, warnings)?;
+    test_unheld(&*host, to)?;
     match host.create(to, layout.file_length(), making) {
         Ok(target) => {
             let (target, filled) = write_shown(&*host, from, to, how, &layout, target, show);
@@ -120,12 +130,14 @@ fn planned<H: Host, E: Write>(
     replace: bool,
     warnings: &mut E,
 ) -> Result<Layout, Failure>
-    ensures { IfOk result (λ l. (size : ℕ) × IsLayoutOf new.format size l
+    ensures layout { IfOk result (λ l. (size : ℕ) × IsLayoutOf new.format size l
         × HasNoNames l) }
+    ensures outside { OnOk result (IsNoSourceAt how (H.contents host.now) (H.statuses host.now)
+        (H.around host.now) from.now to.now) }
 {
     let disk = opened(host, from, how)?;
     let (_, short) = readable_size(host.alloc(), from, &disk)?;
-    test_place(host, &disk, to, replace)?;
+    test_copy(host, &disk, from, to, how, replace)?;
     let layout = layout_for(host.alloc(), &disk, from, to, new)?;
     let _ = warn(&short, warnings);
     Ok(layout)

@@ -4,11 +4,13 @@ ghost use Rattle.std.specs.Prelude.{◌≡◌, ◌^◌, ◌≤◌, OnOk, OnErr, 
 ghost use Rattle.std.specs.Prelude.{option_map};
 ghost use Rattle.imago_images.specs.Formats.{IsFormatBy};
 ghost use Rattle.imago_images.specs.declared.format.ImageFormat.TheVariants.{Raw};
+ghost use Rattle.imago_img_files.specs.Files.{IsUnheld};
 ghost use Rattle.imago_img_files.specs.Openings.{image_format};
-ghost use Rattle.imago_img_disks.specs.Resized.{IsImageResized, IsNewSize, IsSizeAsked};
+ghost use Rattle.imago_img_disks.specs.Resized.{IsImageResized, IsNewSize, IsRegular, IsSizeAsked};
 ghost use Rattle.imago_img_disks.specs.Resized.{size_after};
 
 use crate::create::raw_length;
+use crate::held::test_unheld;
 use imago_images::file::look_at;
 use imago_images::format::ImageFormat;
 use imago_images::layer::format_of;
@@ -26,15 +28,18 @@ const TOO_LONG: u64 = 1 << 63;
 /// size that it gets isn't rounded.
 ///
 /// What isn't a regular file is refused; so are an image of another format, which this would
-/// destroy, a size of 0, and a smaller one unless the disk may become smaller. No file was changed
-/// then, and none is made.
+/// destroy, a size of 0, a smaller one unless the disk may become smaller, and a file that QEMU
+/// holds. No file was changed then, and none is made.
 pub fn resize_image<H: Host>(host: &mut H, asked: Resize<'_>) -> Result<(), Failure>
     ensures resized { OnOk result (IsImageResized asked.entry (H.contents host.old)
         (H.contents host.new)) }
     ensures refused { OnErr result (H.contents host.new ≡ H.contents host.old) }
     ensures around { H.around host.new ≡ H.around host.old }
+    ensures unheld { OnOk result (IsUnheld (H.around host.old) asked.entry.file.now) }
+    ensures regular { OnOk result (IsRegular (H.statuses host.old) asked.entry.file.now) }
 {
     let size = new_size(&*host, asked)?;
+    test_unheld(&*host, asked.file)?;
     match host.set_length(asked.file, size) {
         Ok(()) => Ok(()),
         Err(cause) => Err(Failure::of_file(host.alloc(), asked.file, Reason::System(cause))),
@@ -43,8 +48,9 @@ pub fn resize_image<H: Host>(host: &mut H, asked: Resize<'_>) -> Result<(), Fail
 
 /// The size in bytes that an image gets, which is a raw one.
 fn new_size<H: Host>(host: &H, asked: Resize<'_>) -> Result<u64, Failure>
-    ensures { IfOk result (λ size. IfSome (H.contents host.now)
+    ensures size { IfOk result (λ size. IfSome (H.contents host.now)
         (λ files. IsNewSize asked.entry files size)) }
+    ensures regular { OnOk result (IsRegular (H.statuses host.now) asked.entry.file.now) }
 {
     let length = regular_length(host, asked.file)?;
     test_raw(host, asked.file, asked.format)?;
@@ -57,8 +63,9 @@ fn new_size<H: Host>(host: &H, asked: Resize<'_>) -> Result<u64, Failure>
 
 /// The length in bytes of the file of a path, which is a regular one.
 fn regular_length<H: Host>(host: &H, path: &str) -> Result<u64, Failure>
-    ensures { IfOk result (λ n. IfSome (H.contents host.now)
+    ensures length { IfOk result (λ n. IfSome (H.contents host.now)
         (λ files. n ≡ length (files path.now))) }
+    ensures regular { OnOk result (IsRegular (H.statuses host.now) path.now) }
 {
     let there = Failure::or_system(host.alloc(), path, host.status(path))?;
     if there.kind != FileKind::Regular {

@@ -15,10 +15,9 @@ use imago_disk::disk::Disk;
 use imago_disk::named::is_same_file;
 use imago_drivers::drivers::FormatDriverInstance;
 use imago_images::file::PathStorage;
-use imago_img_files::failure::{Failure, Reason, Refusal};
+use imago_img_files::failure::{Failure, Refusal};
 use imago_img_files::host::{FileStatus, Host, LeftOver};
 use imago_storage::storage::Storage;
-use std::io::ErrorKind;
 
 /// The unfinished file that a copy to that path left when it was killed, if there is one.
 pub(crate) fn left_by<H: Host>(host: &H, to: &str) -> Result<Option<LeftOver>, Failure>
@@ -53,31 +52,33 @@ pub(crate) fn test_apart<'a, H: Host>(
     if has_file(disk, left.status) || leads_to_file(host, disk, &left.path)? {
         return Err(Failure::of_target(host.alloc(), &left.path, Refusal::IsSource));
     }
-    test_elsewhere(host, disk, left)
+    test_elsewhere(host, disk, &left.path, left.status, Refusal::IsSource)
 }
 
 /// Whether a path leads to a file of an image, as a link may by which the command line names it.
 fn leads_to_file<H: Host>(host: &H, disk: &FileDisk<'_, H>, path: &str) -> Result<bool, Failure> {
-    match host.status(path) {
-        Ok(there) => Ok(has_file(disk, there)),
-        Err(cause) if cause.kind() == ErrorKind::NotFound => Ok(false),
-        Err(cause) => Err(Failure::of_file(host.alloc(), path, Reason::System(cause))),
+    match Failure::or_system(host.alloc(), path, host.found(path))? {
+        Some(there) => Ok(has_file(disk, there)),
+        None => Ok(false),
     }
 }
 
-/// Whether no path of a file of an image leads to an unfinished file by now. What it led to when the
-/// image was opened is known to the image; the host is asked once more.
-fn test_elsewhere<H: Host, S: Storage>(
+/// Whether no path of a file of an image leads by now to a file that has another path; else that one
+/// is refused so. What they led to when the image was opened is known to the image; the host is asked
+/// once more.
+pub(crate) fn test_elsewhere<H: Host, S: Storage>(
     host: &H,
     disk: &Disk<S>,
-    left: &LeftOver,
+    path: &str,
+    file: FileStatus,
+    refusal: Refusal,
 ) -> Result<(), Failure>
     ensures { OnOk result (IfSome (H.statuses host.now) (λ status_of.
         IsElsewhere ⟦<AnyDriver<S> as FormatDriverInstance>⟧.view status_of
-        (identity left.now.status) (image_of disk.now))) }
+        (identity file) (image_of disk.now))) }
 {
-    if chain_leads_to(host, disk.image(), left.status)? {
-        return Err(Failure::of_target(host.alloc(), &left.path, Refusal::IsSource));
+    if chain_leads_to(host, disk.image(), file)? {
+        return Err(Failure::of_target(host.alloc(), path, refusal));
     }
     Ok(())
 }

@@ -2,31 +2,37 @@
 -- SPDX-License-Identifier: MIT
 use Rattle.std.specs.Prelude.{◌≡◌, ◌≢◌, ◌⊎◌, ℕ, ◌+◌, ◌-◌, Bool, true, false, ◌||◌}
 use Rattle.std.specs.Prelude.{List, [], ◌++◌, Option, Some, None, drop, length, replicate, take}
+use Rattle.std.specs.Prelude.{IfSome}
 use Rattle.std.specs.Str.{bytes_eq}
 
 -- What is told of files beside their bytes: which paths lead to something, how many files are
--- begun, and neither finished nor abandoned, and under which path one is made that is to have
--- another path.
+-- begun, and neither finished nor abandoned, under which path one is made that is to have another
+-- path, and which paths lead to a file that QEMU holds.
 pub record Around : Type 0 where
   pub there : List ℕ → Bool
   pub unfinished : ℕ
   pub beside : List ℕ → List ℕ
+  pub held : List ℕ → Bool
 
 -- one more file is begun, which has no path yet
 abbrev pub begun : Around → Around
-begun a = record { there = a.there; unfinished = a.unfinished + 1; beside = a.beside }
+begun a = record a { unfinished = a.unfinished + 1 }
 
 -- one fewer is
 abbrev pub ended : Around → Around
-ended a = record { there = a.there; unfinished = a.unfinished - 1; beside = a.beside }
+ended a = record a { unfinished = a.unfinished - 1 }
 
 -- a file has that path
 abbrev pub with_file : List ℕ → Around → Around
-with_file path a = record {
-  there = λ other. bytes_eq path other || a.there other;
-  unfinished = a.unfinished;
-  beside = a.beside;
-}
+with_file path a = record a { there = λ other. bytes_eq path other || a.there other }
+
+-- If QEMU holds the file of a path, something is so, where that is told.
+abbrev pub IfHeld : Option Around → List ℕ → Type 0 → Type 0
+IfHeld around path Then = IfSome around (λ a. a.held path ≡ true → Then)
+
+-- QEMU doesn't hold it, where that is told
+abbrev pub IsUnheld : Option Around → List ℕ → Type 0
+IsUnheld around path = IfSome around (λ a. a.held path ≡ false)
 
 -- The file of that path is gone, and all others are as they were.
 pub record IsGone (old new : List ℕ → List ℕ) (before after : Around) (gone : List ℕ) : Type 0 where
@@ -36,6 +42,7 @@ pub record IsGone (old new : List ℕ → List ℕ) (before after : Around) (gon
   pub still_there : (other : List ℕ) → other ≢ gone → after.there other ≡ before.there other
   pub unfinished : after.unfinished ≡ before.unfinished
   pub beside : after.beside ≡ before.beside
+  pub held : after.held ≡ before.held
 
 -- The unfinished file is gone that a copy to that path left, and all others are as they were, where
 -- that is told. Which file it is follows from what is told of files beside their bytes.

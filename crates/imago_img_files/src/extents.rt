@@ -16,6 +16,7 @@ use imago_images::file::storage_of;
 use imago_images::gate::FolderGate;
 use imago_storage::storage::Storage;
 use std::alloc::Global;
+use std::collections::BTreeMap;
 use std::io::{self, Write};
 
 /// What is found under the name of an extent.
@@ -48,6 +49,68 @@ pub fn find<H: Host>(
     match readable_length(alloc, gate, &path) {
         Ok(length) => Ok(ExtentFile::Length(length)),
         Err(cause) => no_length(cause),
+    }
+}
+
+/// What is found under the name of an extent, as by [`find`]. A file of known length is counted
+/// among those that the files of the descriptor's extents take.
+pub fn find_counted<H: Host>(
+    host: &H,
+    gate: &mut FolderGate<'_, '_, H>,
+    taken: &mut Taken,
+    name: &str,
+) -> Result<ExtentFile, Failure>
+    ensures found { IfOk result (λ file. IfSome (H.contents (gate_host gate.old))
+        (λ files. IsFound (gate_files gate.old) files (gate_image gate.old) name.now file)) }
+{
+    let path = path_beside(host.alloc(), gate.image(), name)?;
+    match readable_length(host.alloc(), gate, &path) {
+        Ok(length) => {
+            taken.count(host, gate, &path)?;
+            Ok(ExtentFile::Length(length))
+        }
+        Err(cause) => no_length(cause),
+    }
+}
+
+/// How many bytes of their file systems the files of a descriptor's extents take.
+#[derive(Drop)]
+pub struct Taken {
+    /// The paths of the files that are counted.
+    counted: BTreeMap<String, ()>,
+    bytes: u64,
+}
+
+impl Taken {
+    /// Those of no files.
+    pub fn new(alloc: Global) -> Self {
+        Taken {
+            counted: BTreeMap::new(alloc),
+            bytes: 0,
+        }
+    }
+
+    /// How many bytes they take.
+    pub fn bytes(&self) -> u64 {
+        self.bytes
+    }
+
+    /// Counts the file of a path that a gate lets through, unless it is counted already. One of
+    /// which the host can't tell it takes none.
+    fn count<H: Host>(
+        &mut self,
+        host: &H,
+        _gate: &FolderGate<'_, '_, H>,
+        path: &str,
+    ) -> Result<(), Failure>
+        requires { IsLetThrough (gate_files _gate.now) (gate_image _gate.now) path.now }
+    {
+        let counted = String::from_str(host.alloc(), path)?;
+        if self.counted.insert(counted, ())?.is_none() {
+            let bytes = host.size_on_disk(path).unwrap_or(0);
+            self.bytes = self.bytes.saturating_add(bytes);
+        }
+        Ok(())
     }
 }
 

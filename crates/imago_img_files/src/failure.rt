@@ -3,11 +3,13 @@
 ghost use Rattle.std.specs.Prelude.{◌≡◌, MatchResult, IsErr};
 ghost use Rattle.imago_img_files.specs.Failures.{IsHostRefusal, IsHostFailure};
 
+use crate::sparse::SparseType;
 use imago_disk::cause::{Cause, ClusterFault, FaultyFile};
 use imago_disk::disk::Unread;
 use imago_formats::signature::Signature;
 pub use imago_images::failure::{OpenError, Reason};
 use imago_images::format::ImageFormat;
+use imago_qcow2::fault::HeaderFault;
 use imago_qcow2_check::fault::{CheckError, Fault};
 use imago_qcow2_new::format::FormatError;
 use imago_storage::error;
@@ -72,6 +74,25 @@ pub enum Failure {
         offset: u64,
         /// Why.
         fault: ClusterFault,
+    },
+    /// A descriptor is that of an image of a type whose extents are sparse files.
+    #[error("{path:?}: a VMDK image of the type {kind}, which isn't supported; convert it with qemu-img")]
+    SparseType {
+        /// The file, as it was opened.
+        path: String,
+        /// The type, as it says.
+        kind: SparseType,
+    },
+    /// The file of a disk ends before bytes that the disk has there, where no other file is to stand
+    /// for them. Both numbers are in bytes.
+    #[error("{path:?}: {length} bytes, and the image uses it up to {end}; imago-img check tells where")]
+    Short {
+        /// The file, as the program was given it.
+        path: String,
+        /// How many it has.
+        length: u64,
+        /// Where the last one ends that the disk has there.
+        end: u64,
     },
     /// The standard output can't be written.
     #[error("the output can't be written: {0}")]
@@ -160,6 +181,9 @@ pub enum Refusal {
     /// What is to be written over is a file of the image that is read.
     #[error("a file of the image that is read is never written into")]
     IsRead,
+    /// QEMU holds what is to be replaced, written over, or given another size.
+    #[error("Failed to get \"write\" lock. Is another process using the image?")]
+    Held,
     /// What was to be read twice isn't what it was.
     #[error("the image changed while it was read")]
     Changed,
@@ -227,6 +251,26 @@ fn advice_for(reason: &Reason) -> &'static str {
         Reason::TablesTooLarge(_) => "; --tables raises it",
         Reason::DiskTooLong { .. } => "; --max-size raises it",
         Reason::Another { found, .. } => advice_for_another(*found),
+        Reason::Header(fault) => advice_for_header(*fault),
+        _ => "",
+    }
+}
+
+/// The same, where the header of a qcow2 file says what isn't supported. What `qemu-img` 7.2 doesn't
+/// read either has no cure. An external data file has none either: `qemu-img` would read whatever
+/// file an image from a stranger names.
+fn advice_for_header(fault: HeaderFault) -> &'static str {
+    match fault {
+        HeaderFault::Encryption => {
+            "; with its secret in the file KEY, qemu-img convert --object secret,id=key,file=KEY \
+            --image-opts driver=qcow2,file.filename=FILE,encrypt.key-secret=key -O qcow2 PLAIN makes \
+            a plain image of it"
+        }
+        HeaderFault::Features(features) => match features.trailing_zeros() {
+            1 => "; qemu-img check -r all FILE may repair it",
+            4 => "; qemu-img convert -O qcow2 FILE PLAIN makes a plain image of it",
+            _ => "",
+        },
         _ => "",
     }
 }
@@ -254,6 +298,7 @@ fn advice_for_outside(path: &str, named: &str) -> &'static str {
 fn advice_on_check(cause: &Unchecked) -> &'static str {
     match cause {
         Unchecked::Qcow2(CheckError::TooLarge) => "; --tables raises it",
+        Unchecked::Qcow2(CheckError::Header(fault)) => advice_for_header(*fault),
         _ => "",
     }
 }
@@ -371,6 +416,22 @@ impl Failure {
                 offset,
                 fault,
             },
+            Err(_) => Failure::Memory,
+        }
+    }
+
+    /// That file describes an image of a type whose extents are sparse files.
+    pub fn of_sparse_type(alloc: Global, path: &str, kind: SparseType) -> Failure {
+        match String::from_str(alloc, path) {
+            Ok(path) => Failure::SparseType { path, kind },
+            Err(_) => Failure::Memory,
+        }
+    }
+
+    /// That file has so many bytes, and its disk has bytes there up to an offset behind its end.
+    pub fn of_short(alloc: Global, path: &str, length: u64, end: u64) -> Failure {
+        match String::from_str(alloc, path) {
+            Ok(path) => Failure::Short { path, length, end },
             Err(_) => Failure::Memory,
         }
     }

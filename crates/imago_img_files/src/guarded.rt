@@ -1,13 +1,13 @@
 // SPDX-License-Identifier: MIT
 //! Where the commands find files and make them, of which only some may be asked for.
-ghost use Rattle.std.specs.Prelude.{◌≡◌, ℕ, ◌<◌, ◌≤◌, [], List, Option, Some, true, false};
+ghost use Rattle.std.specs.Prelude.{◌≡◌, ℕ, ◌<◌, ◌≤◌, [], List, Option, Some, None, true, false};
 ghost use Rattle.std.specs.Prelude.{OnOk, OnErr, IfOk, IfSome, length, option_map, replicate};
 ghost use Rattle.std.specs.Prelude.{string_bytes};
 ghost use Rattle.imago_storage.specs.Bytes.{bytes_at};
 ghost use Rattle.imago_img_files.specs.Files.{Around, begun, ended, with_file, IsMade, IsWhole};
 ghost use Rattle.imago_img_files.specs.Files.{IsOverwritten, IsResized, IsWithoutLeftOver};
 
-use crate::host::{Host, LeftOver, Making};
+use crate::host::{FileStatus, Host, LeftOver, Making};
 use imago_copy::target::Target;
 use imago_images::confined::out_of_reach;
 pub use imago_images::confined::{Confined, Reach};
@@ -44,6 +44,20 @@ pub trait GuardedHost: GuardedFiles {
     /// As [`Host::size_on_disk`], of a path that may be looked at.
     fn size_on_disk(&self, path: &str) -> Option<u64>
         requires asked { Self.may_look path.now ≡ true };
+
+    /// As [`Host::found`], of a path that may be looked at.
+    fn found(&self, path: &str) -> io::Result<Option<FileStatus>>
+        requires asked { Self.may_look path.now ≡ true }
+        ensures none { IfOk result (λ found. found ≡ None
+            → IfSome (around self.now) (λ a. a.there path.now ≡ false)) }
+        ensures told { IfOk result (λ found. IfSome found (λ there. IfSome (Self.statuses self.now)
+            (λ status_of. there ≡ status_of path.now))) };
+
+    /// As [`Host::is_held`], of a path for which a file may be made.
+    fn is_held(&self, path: &str) -> io::Result<bool>
+        requires asked { Self.may_make path.now ≡ true }
+        ensures held { IfOk result
+            (λ held. IfSome (around self.now) (λ a. held ≡ a.held path.now)) };
 
     /// As [`Host::show_progress`].
     fn show_progress(&self, done: u64, total: u64, hundredths: u64);
@@ -144,6 +158,14 @@ impl<H: Host> GuardedHost for H {
         Host::size_on_disk(self, path)
     }
 
+    fn found(&self, path: &str) -> io::Result<Option<FileStatus>> {
+        Host::found(self, path)
+    }
+
+    fn is_held(&self, path: &str) -> io::Result<bool> {
+        Host::is_held(self, path)
+    }
+
     fn show_progress(&self, done: u64, total: u64, hundredths: u64) {
         Host::show_progress(self, done, total, hundredths)
     }
@@ -207,6 +229,20 @@ impl<'a, G: GuardedHost> Host for Confined<'a, G> {
             return None;
         }
         self.host.size_on_disk(path)
+    }
+
+    fn found(&self, path: &str) -> io::Result<Option<FileStatus>> {
+        if !self.reach.sees(path) {
+            return Err(out_of_reach());
+        }
+        self.host.found(path)
+    }
+
+    fn is_held(&self, path: &str) -> io::Result<bool> {
+        if !self.reach.makes(path) {
+            return Err(out_of_reach());
+        }
+        self.host.is_held(path)
     }
 
     fn show_progress(&self, done: u64, total: u64, hundredths: u64) {

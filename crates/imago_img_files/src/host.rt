@@ -67,6 +67,19 @@ pub trait Host: Files {
     /// holes, if that can be told.
     fn size_on_disk(&self, path: &str) -> Option<u64>;
 
+    /// What a path leads to, if it leads to something: as [`Files::status`] tells it.
+    fn found(&self, path: &str) -> io::Result<Option<FileStatus>>
+        ensures none { IfOk result (λ found. found ≡ None
+            → IfSome (around self.now) (λ a. a.there path.now ≡ false)) }
+        ensures told { IfOk result (λ found. IfSome found (λ there. IfSome (Self.statuses self.now)
+            (λ status_of. there ≡ status_of path.now))) };
+
+    /// Whether QEMU holds the file of a path: it writes it, or keeps others from that. No file is
+    /// held where there is none. This is a look and no lock, so the answer may change at once.
+    fn is_held(&self, path: &str) -> io::Result<bool>
+        ensures { IfOk result
+            (λ held. IfSome (around self.now) (λ a. held ≡ a.held path.now)) };
+
     /// Shows how many bytes of a copy are done, of how many, and how many hundredths that is.
     fn show_progress(&self, done: u64, total: u64, hundredths: u64);
 

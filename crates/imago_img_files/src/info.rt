@@ -9,13 +9,15 @@ ghost use Rattle.imago_images.specs.HostBytes.{HasBytes};
 ghost use Rattle.imago_img_files.specs.Described.{HasNoFile, HaveNoFiles, IsDescribed, NamesNothing};
 
 use crate::chain::{Above, NamedBelow, Step, step_below};
-use crate::extents::{ExtentFile, bytes_of, find, tell_fault};
+use crate::extents::{ExtentFile, Taken, find_counted, tell_fault};
 use crate::failure::{Failure, Reason};
 use crate::host::Host;
 use crate::json::quoted;
 use crate::looked::descriptor_text;
 use crate::qcow2_info::{Qcow2Report, print_qcow2, print_qcow2_json, report_on_qcow2};
 use crate::sizes::Size;
+use crate::sparse::sparse_type;
+use crate::vmdk_info::{Found, Settings, VmdkReport, print_vmdk, print_vmdk_json, settings_in};
 use imago_file::name::path_beside;
 use imago_images::alone::refuse_another;
 use imago_images::file::{PathStorage, look_at};
@@ -24,14 +26,12 @@ use imago_images::gate::{FolderGate, Named};
 use imago_images::layer::format_of;
 use imago_images::longest::refuse_longer;
 use imago_images::opening::{Opening, OtherFiles};
+use imago_storage::error::Error;
 use imago_storage::storage::Storage;
 use imago_vmdk::descriptor::{self, Descriptor};
 use imago_vmdk::line::Extent;
 use std::alloc::Global;
 use std::io::{self, Write};
-
-/// An extent, and what is found under its name if it has one.
-type Found = (Extent<String>, Option<ExtentFile>);
 
 /// What an image is.
 #[derive(Drop)]
@@ -41,7 +41,8 @@ struct Report {
     size: u64,
     /// How many bytes the file takes, if that can be told.
     on_disk: Option<u64>,
-    extents: Vec<Found>,
+    /// What else is told of a VMDK image.
+    vmdk: Option<VmdkReport>,
     /// What else is told of a qcow2 image.
     qcow2: Option<Qcow2Report>,
 }
@@ -197,17 +198,19 @@ fn report_as<'a, H: Host>(
             format,
             size: file.file().status().length,
             on_disk,
-            extents: Vec::new(host.alloc()),
+            vmdk: None,
             qcow2: None,
         }),
         ImageFormat::Vmdk => {
-            let described = describe(host, path, file, how)?;
+            let (described, settings) = describe(host, path, file, how)?;
             refuse_files(host.alloc(), path, &described.extents, how.other_files)?;
+            let size = described.size;
+            let (extents, taken) = found_extents(host, path, described.extents, how)?;
             Ok(Report {
                 format,
-                size: described.size,
-                on_disk,
-                extents: found_extents(host, path, described.extents, how)?,
+                size,
+                on_disk: on_disk_with(on_disk, taken),
+                vmdk: Some(VmdkReport { settings, extents }),
                 qcow2: None,
             })
         }
@@ -217,29 +220,44 @@ fn report_as<'a, H: Host>(
                 format,
                 size: found.header.disk_size(),
                 on_disk,
-                extents: Vec::new(host.alloc()),
+                vmdk: None,
                 qcow2: Some(found),
             })
         }
     }
 }
 
-/// What a descriptor says.
+/// How many bytes a descriptor's file takes, with those of its extents' files.
+fn on_disk_with(on_disk: Option<u64>, taken: u64) -> Option<u64> {
+    Some(on_disk?.saturating_add(taken))
+}
+
+/// What a descriptor says, and its settings.
 fn describe<'a, H: Host>(
     host: &H,
     path: &str,
     file: &PathStorage<'a, H>,
     how: Opening,
-) -> Result<Descriptor, Failure>
+) -> Result<(Descriptor, Settings), Failure>
     ensures { (bytes : List ℕ) → HasBytes ⟦<PathStorage<'a, H> as Storage>⟧.features
         ⟦<PathStorage<'a, H> as Storage>⟧.bytes bytes file.now
         → IfOk result (λ d. reading_of how.accepted bytes
-        ≡ Ok (map (extent_with string_bytes) d.extents.items, d.size)) }
+        ≡ Ok (map (extent_with string_bytes) d.0.extents.items, d.0.size)) }
 {
     let text = descriptor_text(host.alloc(), path, file)?;
+    let settings = settings_in(host.alloc(), &text)?;
     match descriptor::read(host.alloc(), how.accepted, &text) {
-        Ok(described) => Ok(described),
-        Err(cause) => Err(Failure::of_file(host.alloc(), path, Reason::Image(cause))),
+        Ok(described) => Ok((described, settings)),
+        Err(cause) => Err(not_described(host.alloc(), path, &text, cause)),
+    }
+}
+
+/// Why a descriptor with that text isn't read: by the type of its image, if its extents are sparse
+/// files.
+fn not_described(alloc: Global, path: &str, text: &[u8], cause: Error) -> Failure {
+    match sparse_type(text) {
+        Some(kind) if cause == Error::Unsupported => Failure::of_sparse_type(alloc, path, kind),
+        _ => Failure::of_file(alloc, path, Reason::Image(cause)),
     }
 }
 
@@ -283,37 +301,41 @@ fn refuse_file(alloc: Global, path: &str, extent: &Extent<String>) -> Result<(),
     Err(Failure::of_file(alloc, path, Reason::NotPermitted(named)))
 }
 
-/// The extents of a descriptor, and what is found under their names.
+/// The extents of a descriptor, what is found under their names, and how many bytes the files take
+/// that are found: each counts once, and one whose size can't be told doesn't.
 fn found_extents<H: Host>(
     host: &H,
     path: &str,
     extents: Vec<Extent<String>>,
     how: Opening,
-) -> Result<Vec<Found>, Failure> {
+) -> Result<(Vec<Found>, u64), Failure> {
     let mut gate = FolderGate::of(host, path, Named::Extents, how.other_files)?;
+    let mut taken = Taken::new(host.alloc());
     let mut all = Vec::new(host.alloc());
     for extent in extents {
-        let file = file_of(host.alloc(), &mut gate, &extent)?;
+        let file = file_of(host, &mut gate, &mut taken, &extent)?;
         all.push((extent, file))?;
     }
-    Ok(all)
+    Ok((all, taken.bytes()))
 }
 
-/// What is found under the name of an extent, if it has one.
+/// What is found under the name of an extent, if it has one, and is counted.
 fn file_of<H: Host>(
-    alloc: Global,
+    host: &H,
     gate: &mut FolderGate<'_, '_, H>,
+    taken: &mut Taken,
     extent: &Extent<String>,
 ) -> Result<Option<ExtentFile>, Failure> {
     match extent {
-        Extent::Flat { name, .. } => Ok(Some(find(alloc, gate, name)?)),
+        Extent::Flat { name, .. } => Ok(Some(find_counted(host, gate, taken, name)?)),
         _ => Ok(None),
     }
 }
 
 /// Warns of extents that their files don't hold. That it can't be told is no failure.
 fn warn<E: Write>(report: &Report, warnings: &mut E) {
-    for (extent, file) in &report.extents {
+    let Some(vmdk) = &report.vmdk else { return };
+    for (extent, file) in &vmdk.extents {
         if let (
             Extent::Flat {
                 sectors,
@@ -358,31 +380,10 @@ fn print_text<W: Write>(path: &str, report: &Report, output: &mut W) -> io::Resu
     if let Some(found) = &report.qcow2 {
         print_qcow2(found, output)?;
     }
-    for (extent, _) in &report.extents {
-        print_extent(extent, output)?;
+    if let Some(found) = &report.vmdk {
+        print_vmdk(found, output)?;
     }
     Ok(())
-}
-
-/// The kind of an extent, as a descriptor has it.
-fn kind_of(extent: &Extent<String>) -> &'static str {
-    match extent {
-        Extent::Zero { .. } => "ZERO",
-        Extent::NoAccess { .. } => "NOACCESS",
-        Extent::Flat { vmfs: true, .. } => "VMFS",
-        Extent::Flat { vmfs: false, .. } => "FLAT",
-    }
-}
-
-/// Prints an extent as a line.
-fn print_extent<W: Write>(extent: &Extent<String>, output: &mut W) -> io::Result<()> {
-    let (kind, count) = (kind_of(extent), bytes_of(extent.sectors()));
-    write!(output, "extent: {kind}, {count} bytes")?;
-    if let Extent::Flat { name, offset, .. } = extent {
-        let offset = bytes_of(*offset);
-        write!(output, " from {offset} of {name:?}")?;
-    }
-    writeln!(output)
 }
 
 /// Prints it as a JSON object.
@@ -392,9 +393,9 @@ fn print_json<H: Host, W: Write>(
     report: &Report,
     output: &mut W,
 ) -> io::Result<()> {
-    let path = quoted(host.alloc(), path)?;
+    let name = quoted(host.alloc(), path)?;
     let (format, size) = (report.format.name(), report.size);
-    write!(output, "{{ \"filename\": {path}, \"format\": \"{format}\"")?;
+    write!(output, "{{ \"filename\": {name}, \"format\": \"{format}\"")?;
     write!(output, ", \"virtual-size\": {size}")?;
     if let Some(taken) = report.on_disk {
         write!(output, ", \"actual-size\": {taken}")?;
@@ -403,35 +404,9 @@ fn print_json<H: Host, W: Write>(
         print_qcow2_json(host.alloc(), found, output)?;
         return write!(output, " }}");
     }
-    write!(output, ", \"extents\": [")?;
-    let mut start = "";
-    for found in &report.extents {
-        write!(output, "{start}")?;
-        print_found(host, found, output)?;
-        start = ",";
-    }
-    write!(output, "] }}")
-}
-
-/// Prints an extent as a JSON object.
-fn print_found<H: Host, W: Write>(host: &H, found: &Found, output: &mut W) -> io::Result<()> {
-    let (extent, file) = found;
-    let (kind, length) = (kind_of(extent), bytes_of(extent.sectors()));
-    write!(output, "\n{{ \"type\": \"{kind}\", \"length\": {length}")?;
-    if let Extent::Flat { name, offset, .. } = extent {
-        let (name, offset) = (quoted(host.alloc(), name)?, bytes_of(*offset));
-        write!(output, ", \"filename\": {name}, \"offset\": {offset}")?;
-    }
-    if let Some(file) = file {
-        print_length(file, output)?;
+    match &report.vmdk {
+        Some(found) => print_vmdk_json(host.alloc(), path, found, output)?,
+        None => write!(output, ", \"extents\": []")?,
     }
     write!(output, " }}")
-}
-
-/// Prints how long the file of an extent is, if it is known.
-fn print_length<W: Write>(file: &ExtentFile, output: &mut W) -> io::Result<()> {
-    match file {
-        ExtentFile::Length(length) => write!(output, ", \"file-length\": {length}"),
-        _ => write!(output, ", \"file-length\": null"),
-    }
 }

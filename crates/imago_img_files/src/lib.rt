@@ -5,6 +5,7 @@
 //! The commands find files by a [`Host`](host::Host).
 #![tactic(auto)]
 
+mod bitmaps;
 mod chain;
 pub mod extension;
 pub mod extents;
@@ -14,7 +15,11 @@ pub mod host;
 pub mod info;
 pub mod json;
 pub mod looked;
+mod luks;
 pub mod opening;
 pub mod qcow2_info;
 mod sizes;
 mod snapshots;
+pub mod sparse;
+mod times;
+mod vmdk_info;

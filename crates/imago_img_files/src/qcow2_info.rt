@@ -1,6 +1,7 @@
 // SPDX-License-Identifier: MIT
-//! What a qcow2 file is, by its header, the names that stand in its first cluster, and its table of
-//! snapshots. No L1 and no L2 table is read.
+//! What a qcow2 file is, by its header, the names that stand in its first cluster, its table of
+//! snapshots, its directory of bitmaps, and the header of its encryption. No L1 and no L2 table is
+//! read.
 ghost use Rattle.std.specs.Prelude.{◌≡◌, ℕ, ◌<◌, ◌≤◌, List, None, false, IfOk, OnOk, IsTrue};
 ghost use Rattle.std.specs.Prelude.{length, slice_index};
 ghost use Rattle.imago_storage.specs.Bytes.{IsReadAt};
@@ -11,14 +12,15 @@ ghost use Rattle.imago_images.specs.HostBytes.{HasBytes};
 ghost use Rattle.imago_images.specs.Layers.{SaysBacking};
 ghost use Rattle.imago_img_files.specs.Described.{NamesNoFile};
 
+use crate::bitmaps::{Bitmap, print_bitmaps, print_bitmaps_json, read_bitmaps};
 use crate::chain::{NamedBelow, full_path};
-use crate::extension::data_name;
+use crate::extension::{BitmapPlace, bitmap_place, data_name, encryption_place};
 use crate::failure::{Failure, OpenError, Reason, SnapshotFault};
 use crate::host::Host;
 use crate::json::quoted;
 use crate::looked::unread;
-use crate::sizes::Size;
-use crate::snapshots::{Snapshot, SnapshotTable, read_snapshots};
+use crate::luks::{LUKS, Luks, print_encryption, print_encryption_json, read_luks};
+use crate::snapshots::{Snapshot, Table, print_snapshots, print_snapshots_json, read_snapshots};
 use imago_file::file::FileStorage;
 use imago_file::host::HostFile;
 use imago_images::alone::refuse_below;
@@ -41,7 +43,8 @@ use std::io::{self, Write};
 /// What a qcow2 file is.
 #[derive(Drop)]
 pub struct Qcow2Report {
-    /// What its header says, but for encryption and features that aren't supported.
+    /// What its header says, but for encryption, features that aren't supported, and where an L1 table
+    /// begins that passes the file's end.
     pub header: Header,
     unsupported: Unsupported,
     /// How many bits a reference count has.
@@ -49,26 +52,51 @@ pub struct Qcow2Report {
     below: NamesBelow,
     /// Where the data stand in a file of their own.
     data_file: DataFile,
+    listed: Listed,
+}
+
+/// What stands in a file besides its header and the names of other files.
+#[derive(Drop)]
+struct Listed {
     snapshots: Vec<Snapshot>,
+    /// The bitmaps, if they can be told.
+    bitmaps: Option<Vec<Bitmap>>,
+    /// What the header of its encryption says, if that is LUKS and can be told.
+    luks: Option<Luks>,
+}
+
+/// Where header extensions say that more stands in a file.
+#[derive(Clone, Copy)]
+struct Places {
+    /// The directory of bitmaps.
+    bitmaps: Option<BitmapPlace>,
+    /// The header of the encryption, by its offset in bytes.
+    encryption: Option<u64>,
 }
 
 /// What a header says for which an image isn't opened, and yet is told.
 #[derive(Clone, Copy)]
 struct Unsupported {
-    /// Whether it is encrypted.
-    encryption: bool,
+    /// How it is encrypted, if it is: by AES, by LUKS, or in a way that isn't known.
+    encryption: Option<u32>,
     /// Incompatible features, each by its bit.
     features: u64,
     /// How many bytes its L1 table has, if these are too many.
     long_l1: Option<u64>,
+    /// Whether its L1 table passes the file's end.
+    cut_l1: bool,
+    /// Whether its table of snapshots does so too.
+    cut_snapshots: bool,
 }
 
 impl Unsupported {
     /// Nothing.
     const NONE: Unsupported = Unsupported {
-        encryption: false,
+        encryption: None,
         features: 0,
         long_l1: None,
+        cut_l1: false,
+        cut_snapshots: false,
     };
 
     /// Whether the feature of a bit is one of them.
@@ -122,7 +150,8 @@ impl Qcow2Report {
 /// A header that was read.
 #[derive(Clone, Copy)]
 struct Head {
-    /// Its bytes, without encryption and features that aren't supported.
+    /// Its bytes, without encryption, features that aren't supported, and where an L1 table begins
+    /// that passes the file's end.
     bytes: [u8; HEAD_LENGTH],
     header: Header,
     unsupported: Unsupported,
@@ -139,14 +168,19 @@ pub fn put(bytes: &mut [u8], at: usize, source: &[u8])
     bytes[at..at + source.len()].copy_from_slice(source);
 }
 
-/// What the first bytes of a file of that length say. Encryption and features that aren't supported
-/// are taken out of them; an L1 table that is too long stays.
+/// Where the header says where the L1 table begins.
+const L1_START: usize = 40;
+
+/// What the first bytes of a file of that length say. Encryption, features that aren't supported and
+/// the beginning of an L1 table that passes the file's end are taken out of them; an L1 table that
+/// is too long stays.
 fn head_of(mut bytes: [u8; HEAD_LENGTH], file: u64) -> Result<Head, HeaderFault> {
     let mut unsupported = Unsupported::NONE;
-    for _step in 0..2u32 {
-        match header::read(&bytes, file) {
+    let mut length = file;
+    for _step in 0..3u32 {
+        match header::read(&bytes, length) {
             Err(HeaderFault::Encryption) => {
-                unsupported.encryption = true;
+                unsupported.encryption = Some(number32(&bytes, 32));
                 put(&mut bytes, 32, &[0; 4]);
             }
             Err(HeaderFault::Features(features)) => {
@@ -154,13 +188,19 @@ fn head_of(mut bytes: [u8; HEAD_LENGTH], file: u64) -> Result<Head, HeaderFault>
                 let rest = number64(&bytes, 72) & !features;
                 put(&mut bytes, 72, &rest.to_be_bytes());
             }
+            Err(HeaderFault::TableBehindEnd) => {
+                // No L1 table is read here, so the header is told as of a file that holds it.
+                unsupported.cut_l1 = true;
+                put(&mut bytes, L1_START, &[0; 8]);
+                length = u64::MAX;
+            }
             _ => {}
         }
     }
-    let header = header::read(&bytes, file)?;
-    let length = l1_length(&bytes);
-    if length > LONGEST_L1 {
-        unsupported.long_l1 = Some(length);
+    let header = header::read(&bytes, length)?;
+    let taken = l1_length(&bytes);
+    if taken > LONGEST_L1 {
+        unsupported.long_l1 = Some(taken);
     }
     Ok(Head {
         bytes,
@@ -270,6 +310,30 @@ fn names_below(
     })
 }
 
+/// Where the header extensions in that first cluster say that more stands in the file. Bitmaps
+/// count only if the header says that they are in order.
+fn places_in(cluster: &[u8], head: &Head) -> Places {
+    Places {
+        bitmaps: match bitmap_place(cluster, &head.bytes) {
+            Some(place) if head.header.has_bitmaps() => Some(place),
+            _ => None,
+        },
+        encryption: encryption_place(cluster, &head.bytes),
+    }
+}
+
+/// What a file with that first cluster says of the one in which its data stand, and where more
+/// stands in it.
+fn told_in(
+    alloc: Global,
+    cluster: &[u8],
+    head: &Head,
+    is_used: bool,
+) -> Result<(DataFile, Places), AllocError> {
+    let data_file = data_file_of(alloc, cluster, head, is_used)?;
+    Ok((data_file, places_in(cluster, head)))
+}
+
 /// What a file with that first cluster says of the one in which its data stand. Only those of
 /// version 3 do. What isn't UTF-8 in its name is told as U+FFFD, as by `qemu-img`.
 fn data_file_of(
@@ -291,15 +355,15 @@ fn data_file_of(
     })
 }
 
-/// The other files that a file names: the one below it, and the one in which its data stand. Where
-/// no other files are opened, it may name none.
+/// The other files that a file names, the one below it and the one in which its data stand, and where
+/// more stands in the file itself. Where no other files are opened, it may name none.
 fn names_in<F: HostFile>(
     alloc: Global,
     path: &str,
     file: &FileStorage<F>,
     head: &Head,
     others: OtherFiles,
-) -> Result<(NamesBelow, DataFile), OpenError>
+) -> Result<(NamesBelow, DataFile, Places), OpenError>
     ensures { (bytes : List ℕ) → HasBytes ⟦<FileStorage<F> as Storage>⟧.features
         ⟦<FileStorage<F> as Storage>⟧.bytes bytes file.now
         → OnOk result (others ≡ Others.None → NamesNoFile bytes) }
@@ -307,9 +371,9 @@ fn names_in<F: HostFile>(
     let cluster = first_cluster(alloc, path, file, head)?;
     let is_used = has_data_file(&cluster);
     refuse_data_file(alloc, path, is_used, others)?;
-    let data_file = data_file_of(alloc, &cluster, head, is_used)?;
+    let (data_file, places) = told_in(alloc, &cluster, head, is_used)?;
     let below = names_below(alloc, path, cluster, head, others)?;
-    Ok((below, data_file))
+    Ok((below, data_file, places))
 }
 
 /// The path that a name stands for which the file of that path has, if it is a file's.
@@ -347,16 +411,87 @@ fn snapshots_of<S: Storage>(
     head: &Head,
     length: u64,
 ) -> Result<Vec<Snapshot>, SnapshotFault> {
-    let table = SnapshotTable {
+    let table = Table {
         start: number64(&head.bytes, 64),
         count: number32(&head.bytes, 60),
-        file: length,
+        end: length,
     };
     read_snapshots(alloc, file, table)
 }
 
-/// Tells what a qcow2 file is, what it says of the one below it, and its snapshots. Where no other
-/// files are opened, it may name none.
+/// The bitmaps of a file of that length, if they can be told: those of which a header extension says
+/// where they are.
+fn bitmaps_of<S: Storage>(
+    alloc: Global,
+    file: &S,
+    place: Option<BitmapPlace>,
+    length: u64,
+) -> Result<Option<Vec<Bitmap>>, Error> {
+    let Some(place) = place else {
+        return Ok(Some(Vec::new(alloc)));
+    };
+    match read_bitmaps(alloc, file, place, length) {
+        Ok(bitmaps) => Ok(bitmaps),
+        Err(SnapshotFault::Storage(cause)) => Err(cause),
+        Err(SnapshotFault::PastEnd | SnapshotFault::TooLong) => Ok(None),
+    }
+}
+
+/// What the header of the encryption says, if that is LUKS and can be told.
+fn luks_of<S: Storage>(
+    alloc: Global,
+    file: &S,
+    head: &Head,
+    place: Option<u64>,
+) -> Result<Option<Luks>, Error> {
+    match place {
+        Some(place) if head.unsupported.encryption == Some(LUKS) => read_luks(alloc, file, place),
+        _ => Ok(None),
+    }
+}
+
+/// What stands in a file of that length besides its header and the names of other files, but for a
+/// table of snapshots that passes the end where the L1 table does.
+fn listed_in<S: Storage>(
+    alloc: Global,
+    file: &S,
+    head: &mut Head,
+    places: Places,
+    length: u64,
+) -> Result<Listed, SnapshotFault> {
+    let snapshots = match snapshots_of(alloc, file, head, length) {
+        Err(SnapshotFault::PastEnd) if head.unsupported.cut_l1 => {
+            head.unsupported.cut_snapshots = true;
+            Vec::new(alloc)
+        }
+        found => found?,
+    };
+    Ok(Listed {
+        snapshots,
+        bitmaps: bitmaps_of(alloc, file, places.bitmaps, length)?,
+        luks: luks_of(alloc, file, head, places.encryption)?,
+    })
+}
+
+/// What was found in the file of that path, or why it can't be told.
+fn or_untold<F: HostFile>(
+    alloc: Global,
+    path: &str,
+    file: &FileStorage<F>,
+    found: Result<Listed, SnapshotFault>,
+) -> Result<Listed, Failure> {
+    match found {
+        Ok(listed) => Ok(listed),
+        Err(SnapshotFault::Storage(cause)) => {
+            let refused = OpenError::of_file(alloc, path, Reason::Image(cause));
+            Ok(told_by_host(alloc, path, file, Err(refused))?)
+        }
+        Err(fault) => Err(Failure::of_snapshots(alloc, path, fault)),
+    }
+}
+
+/// Tells what a qcow2 file is, what it says of the one below it, its snapshots and bitmaps, and how
+/// it is encrypted. Where no other files are opened, it may name none.
 pub fn report_on_qcow2<'a, H: Host>(
     host: &H,
     path: &str,
@@ -369,23 +504,17 @@ pub fn report_on_qcow2<'a, H: Host>(
 {
     let alloc = host.alloc();
     let read = read_head(alloc, path, file);
-    let (head, length) = told_by_host(alloc, path, file, read)?;
-    let (below, data_file) = names_in(alloc, path, file, &head, others)?;
-    let snapshots = match snapshots_of(alloc, file, &head, length) {
-        Ok(snapshots) => snapshots,
-        Err(SnapshotFault::Storage(cause)) => {
-            let refused = OpenError::of_file(alloc, path, Reason::Image(cause));
-            told_by_host(alloc, path, file, Err(refused))?
-        }
-        Err(fault) => return Err(Failure::of_snapshots(alloc, path, fault)),
-    };
+    let (mut head, length) = told_by_host(alloc, path, file, read)?;
+    let (below, data_file, places) = names_in(alloc, path, file, &head, others)?;
+    let listed = listed_in(alloc, file, &mut head, places, length);
+    let listed = or_untold(alloc, path, file, listed)?;
     Ok(Qcow2Report {
         header: head.header,
         unsupported: head.unsupported,
         refcount_bits: refcount_bits(&head),
         below,
         data_file,
-        snapshots,
+        listed,
     })
 }
 
@@ -405,9 +534,12 @@ fn compression(header: Header) -> &'static str {
 /// Prints it as lines.
 pub fn print_qcow2<W: Write>(report: &Qcow2Report, output: &mut W) -> io::Result<()> {
     let header = report.header;
+    if report.unsupported.encryption.is_some() {
+        writeln!(output, "encrypted: yes")?;
+    }
     writeln!(output, "cluster_size: {}", header.cluster_size())?;
     print_below(&report.below, output)?;
-    print_snapshots(&report.snapshots, output)?;
+    print_snapshots(&report.listed.snapshots, output)?;
     writeln!(output, "Format specific information:")?;
     writeln!(output, "    compat: {}", compat(header))?;
     writeln!(output, "    compression type: {}", compression(header))?;
@@ -418,8 +550,10 @@ pub fn print_qcow2<W: Write>(report: &Qcow2Report, output: &mut W) -> io::Result
             header.has_lazy_refcounts()
         )?;
     }
+    print_bitmaps(&report.listed.bitmaps, output)?;
     writeln!(output, "    refcount bits: {}", report.refcount_bits)?;
     print_data_file(&report.data_file, output)?;
+    print_encryption(report.unsupported.encryption, &report.listed.luks, output)?;
     if header.version() >= 3 {
         let unsupported = report.unsupported;
         writeln!(output, "    corrupt: {}", unsupported.has(CORRUPT))?;
@@ -428,9 +562,6 @@ pub fn print_qcow2<W: Write>(report: &Qcow2Report, output: &mut W) -> io::Result
             "    extended l2: {}",
             unsupported.has(EXTENDED_ENTRIES)
         )?;
-    }
-    if header.has_bitmaps() {
-        writeln!(output, "    bitmaps: valid")?;
     }
     if header.is_dirty() {
         writeln!(output, "cleanly shut down: no")?;
@@ -449,9 +580,12 @@ fn print_data_file<W: Write>(data_file: &DataFile, output: &mut W) -> io::Result
     Ok(())
 }
 
+/// Why snapshots aren't told of a file whose L1 table passes its end.
+const CUT_SNAPSHOTS: &str = "the table of snapshots passes the file's end";
+
 /// Prints why an image can't be opened, each reason in a line.
 fn print_unsupported<W: Write>(unsupported: Unsupported, output: &mut W) -> io::Result<()> {
-    if unsupported.encryption {
+    if unsupported.encryption.is_some() {
         writeln!(output, "can't be opened: {}", HeaderFault::Encryption)?;
     }
     for bit in 0..64u32 {
@@ -465,6 +599,12 @@ fn print_unsupported<W: Write>(unsupported: Unsupported, output: &mut W) -> io::
     }
     if let Some(taken) = unsupported.long_l1 {
         writeln!(output, "can't be opened: {}", Reason::L1TooLong(taken))?;
+    }
+    if unsupported.cut_l1 {
+        writeln!(output, "can't be opened: {}", HeaderFault::TableBehindEnd)?;
+    }
+    if unsupported.cut_snapshots {
+        writeln!(output, "can't be opened: {CUT_SNAPSHOTS}")?;
     }
     Ok(())
 }
@@ -484,19 +624,6 @@ fn print_below<W: Write>(below: &NamesBelow, output: &mut W) -> io::Result<()> {
     Ok(())
 }
 
-/// Prints how many snapshots there are, and each in a line.
-fn print_snapshots<W: Write>(snapshots: &[Snapshot], output: &mut W) -> io::Result<()> {
-    if snapshots.is_empty() {
-        return Ok(());
-    }
-    writeln!(output, "snapshots: {}", snapshots.len())?;
-    for snapshot in snapshots {
-        let (id, name, state) = (&snapshot.id, &snapshot.name, Size(snapshot.state));
-        writeln!(output, "    id {id:?}, name {name:?}, state of {state}")?;
-    }
-    Ok(())
-}
-
 /// Prints it as members of a JSON object.
 pub fn print_qcow2_json<W: Write>(
     alloc: Global,
@@ -506,9 +633,9 @@ pub fn print_qcow2_json<W: Write>(
     let header = report.header;
     write!(output, ", \"cluster-size\": {}", header.cluster_size())?;
     print_below_json(alloc, &report.below, output)?;
-    print_snapshots_json(alloc, &report.snapshots, output)?;
+    print_snapshots_json(alloc, &report.listed.snapshots, output)?;
     write!(output, ", \"dirty-flag\": {}", header.is_dirty())?;
-    if report.unsupported.encryption {
+    if report.unsupported.encryption.is_some() {
         write!(output, ", \"encrypted\": true")?;
     }
     write!(
@@ -520,6 +647,9 @@ pub fn print_qcow2_json<W: Write>(
         report.refcount_bits
     )?;
     print_data_file_json(alloc, &report.data_file, output)?;
+    print_bitmaps_json(alloc, &report.listed.bitmaps, output)?;
+    let encryption = report.unsupported.encryption;
+    print_encryption_json(alloc, encryption, &report.listed.luks, output)?;
     if header.version() >= 3 {
         print_features_json(report, output)?;
     }
@@ -560,7 +690,7 @@ fn print_unsupported_json<W: Write>(
     output: &mut W,
 ) -> io::Result<()> {
     let mut is_first = true;
-    if unsupported.encryption {
+    if unsupported.encryption.is_some() {
         print_reason(alloc, &mut is_first, HeaderFault::Encryption, output)?;
     }
     for bit in 0..64u32 {
@@ -575,6 +705,12 @@ fn print_unsupported_json<W: Write>(
     }
     if let Some(length) = unsupported.long_l1 {
         print_reason(alloc, &mut is_first, Reason::L1TooLong(length), output)?;
+    }
+    if unsupported.cut_l1 {
+        print_reason(alloc, &mut is_first, HeaderFault::TableBehindEnd, output)?;
+    }
+    if unsupported.cut_snapshots {
+        print_reason(alloc, &mut is_first, CUT_SNAPSHOTS, output)?;
     }
     if !is_first {
         write!(output, "]")?;
@@ -614,43 +750,4 @@ fn print_below_json<W: Write>(alloc: Global, below: &NamesBelow, output: &mut W)
         write!(output, ", \"backing-filename-format\": {format}")?;
     }
     Ok(())
-}
-
-/// Prints snapshots as a member of a JSON object, if there are any.
-fn print_snapshots_json<W: Write>(
-    alloc: Global,
-    snapshots: &[Snapshot],
-    output: &mut W,
-) -> io::Result<()> {
-    if snapshots.is_empty() {
-        return Ok(());
-    }
-    let mut start = ", \"snapshots\": [";
-    for snapshot in snapshots {
-        write!(output, "{start}")?;
-        print_snapshot_json(alloc, snapshot, output)?;
-        start = ", ";
-    }
-    write!(output, "]")
-}
-
-/// Prints a snapshot as a JSON object.
-fn print_snapshot_json<W: Write>(
-    alloc: Global,
-    snapshot: &Snapshot,
-    output: &mut W,
-) -> io::Result<()> {
-    let (id, name) = (quoted(alloc, &snapshot.id)?, quoted(alloc, &snapshot.name)?);
-    write!(output, "{{ \"id\": {id}, \"name\": {name}")?;
-    write!(output, ", \"vm-state-size\": {}", snapshot.state)?;
-    write!(output, ", \"date-sec\": {}", snapshot.seconds)?;
-    write!(output, ", \"date-nsec\": {}", snapshot.nanoseconds)?;
-    let (seconds, rest) = (
-        snapshot.clock / 1_000_000_000,
-        snapshot.clock % 1_000_000_000,
-    );
-    write!(
-        output,
-        ", \"vm-clock-sec\": {seconds}, \"vm-clock-nsec\": {rest} }}"
-    )
 }

@@ -1,6 +1,6 @@
 -- What a conversion to either format says of the files.
 -- SPDX-License-Identifier: MIT
-use Rattle.std.proofs.Common.{◌≡◌, ℕ, inl, List, Option, Result, OnOk, refl, sym, subst}
+use Rattle.std.proofs.Common.{◌≡◌, ℕ, inl, List, Option, Result, Ok, Err, OnOk, refl, sym, subst}
 use Rattle.imago_words.specs.declared.command.Convert.{Convert}
 use Rattle.imago_words.specs.declared.settings.NewFormat.{NewFormat}
 use Rattle.imago_words.specs.declared.settings.NewFormat.TheVariants as New
@@ -8,12 +8,16 @@ use Rattle.imago_words.specs.declared.settings.Settings.{Settings}
 use Rattle.imago_qcow2_new.specs.declared.format.Format.{Format}
 use Rattle.imago_images.specs.declared.files.FileStatus.{FileStatus}
 use Rattle.imago_images.specs.declared.opening.Opening.{Opening}
-use Rattle.imago_img_files.specs.Files.{Around, IsSoOnceCleared}
+use Rattle.imago_img_files.specs.Files.{Around, IsSoOnceCleared, IsUnheld}
 use Rattle.imago_img_disks.specs.Disks.{IsConverted}
-use Rattle.imago_img_disks.specs.LeftOvers.{IsApart}
+use Rattle.imago_img_disks.specs.LeftOvers.{IsApart, IsNoSourceAt}
 use Rattle.imago_img_disks.specs.NewFiles.{IsNewlyMade, IsQcow2Copy, format_by}
 use Rattle.imago_img_parts.specs.Commands.{IsConvertedTo, IsNewlyConverted}
-use Rattle.imago_img_disks.proofs.NewFiles.{then}
+
+-- what follows from three facts, each of which holds where something is done
+all : {A E : Type 0} {P Q S R : Type 0} (r : Result A E) → (P → Q → S → R) → OnOk r P → OnOk r Q → OnOk r S → OnOk r R
+all (Ok x) f h k m = f h k m
+all (Err e) f h k m = tt
 
 -- What a conversion says of its format.
 module _ (how : Opening) (c : Convert) (statuses left_overs : Option (List ℕ → FileStatus))
@@ -22,26 +26,35 @@ module _ (how : Opening) (c : Convert) (statuses left_overs : Option (List ℕ �
   abbrev Might : Type 0
   Might = IsApart how old statuses left_overs c.source.now c.target.now
 
+  abbrev Outside : Type 0
+  Outside = IsNoSourceAt how old statuses before c.source.now c.target.now
+
   pub converted_raw : c.target_format ≡ New.Raw
       → OnOk r (IsSoOnceCleared c.force old before c.target.now Might (λ files around. IsConverted how c.force files new around after c.source.now c.target.now))
+      → OnOk r (IsUnheld before c.target.now) → OnOk r Outside
       → OnOk r (IsNewlyConverted how c statuses left_overs old new before after 0)
-  converted_raw e h = then r
-      (λ k. inl (
+  converted_raw e h unheld apart = all r
+      (λ k free outside. inl (
         refl,
         subst (λ (f : NewFormat). IsSoOnceCleared c.force old before c.target.now Might
             (λ files around. IsConvertedTo f how c files new around after)) (sym e) k,
-      )) h
+        free,
+        outside,
+      )) h unheld apart
 
   pub converted_qcow2 : (settings : Settings) (format : Format) → format ≡ format_by settings
       → c.target_format ≡ New.Qcow2 settings
       → OnOk r (IsSoOnceCleared c.force old before c.target.now Might (λ files around. IsNewlyMade
       (IsQcow2Copy how c.source.now format) c.force files new around after c.target.now))
+      → OnOk r (IsUnheld before c.target.now) → OnOk r Outside
       → OnOk r (IsNewlyConverted how c statuses left_overs old new before after 0)
-  converted_qcow2 settings format is e h = then r
-      (λ k. inl (
+  converted_qcow2 settings format is e h unheld apart = all r
+      (λ k free outside. inl (
         refl,
         subst (λ (f : NewFormat). IsSoOnceCleared c.force old before c.target.now Might
             (λ files around. IsConvertedTo f how c files new around after)) (sym e)
             (subst (λ (f : Format). IsSoOnceCleared c.force old before c.target.now Might (λ files around. IsNewlyMade
             (IsQcow2Copy how c.source.now f) c.force files new around after c.target.now)) is k),
-      )) h
+        free,
+        outside,
+      )) h unheld apart

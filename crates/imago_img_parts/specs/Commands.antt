@@ -19,7 +19,7 @@ use Rattle.imago_img_parts.specs.declared.question.Question.{Question}
 use Rattle.imago_img_parts.specs.declared.question.Question.TheVariants as Q
 use Rattle.imago_img_parts.specs.declared.run.Outcome.{Outcome}
 use Rattle.imago_img_parts.specs.declared.run.Outcome.TheVariants.{Fine, Unlike, Checked, Vetted}
-use Rattle.imago_img_files.specs.Files.{Around, IsSoOnceCleared}
+use Rattle.imago_img_files.specs.Files.{Around, IfHeld, IsSoOnceCleared, IsUnheld}
 use Rattle.imago_img_disks.specs.Disks.{IsConverted, IsConvertedOver, IsPartlyConvertedOver}
 use Rattle.imago_disk.specs.Shows.{IsImage}
 use Rattle.imago_img_disks.specs.Disks.{AreAlike, AreUnlike}
@@ -27,9 +27,9 @@ use Rattle.imago_img_disks.specs.Measures.{IsMeasured}
 use Rattle.imago_img_disks.specs.NewFiles.{IsNewImage, IsNewlyMade, IsQcow2Copy, format_by}
 use Rattle.imago_img_checks.specs.Checked.{IsChecked}
 use Rattle.imago_img_files.specs.Described.{IsDescribed}
-use Rattle.imago_img_disks.specs.LeftOvers.{IsApart, IsApartBelow}
+use Rattle.imago_img_disks.specs.LeftOvers.{IsApart, IsApartBelow, IsNoSourceAt, IsNoSourceAtBelow}
 use Rattle.imago_img_files.specs.Openings.{how_by, image_format}
-use Rattle.imago_img_disks.specs.Resized.{IsImageResized}
+use Rattle.imago_img_disks.specs.Resized.{IsImageResized, IsRegular}
 use Rattle.imago_img_checks.specs.Vetted.{IsVetted}
 
 -- fine or not
@@ -71,6 +71,7 @@ AreToldApart how other same_size files first second false =
 abbrev pub IsAnswered : Question → Option (List ℕ → List ℕ) → Outcome → Type 0
 IsAnswered (Q.Help kind) contents outcome = outcome ≡ Fine
 IsAnswered Q.Version contents outcome = outcome ≡ Fine
+IsAnswered (Q.Settings format) contents outcome = outcome ≡ Fine
 IsAnswered (Q.Info c) contents outcome = (outcome ≡ Fine) × IfSome contents
     (λ files. IsDescribed (how_by c.format c.opening) c.file.now (files c.file.now))
 IsAnswered (Q.Map c) contents outcome = (outcome ≡ Fine) × IfSome contents
@@ -88,11 +89,12 @@ IsAnswered (Q.Compare c) contents outcome =
     (λ files. AreToldApart (how_by c.first_format c.opening)
     (option_map image_format c.second_format) c.same_size files c.first.now c.second.now alike)
 
--- The status where a question isn't answered: for help and the version that of a refused line, and
--- else one that no answer has.
+-- The status where a question isn't answered: for help, the version and the settings that of a
+-- refused line, and else one that no answer has.
 abbrev pub untold : ℕ → Question → ℕ
 untold refused (Q.Help kind) = refused
 untold refused Q.Version = refused
+untold refused (Q.Settings format) = refused
 untold refused (Q.Info c) = 1
 untold refused (Q.Map c) = 1
 untold refused (Q.Check c) = 1
@@ -115,15 +117,18 @@ IsAsked refused question old new before after status =
 
 -- With status 0 a file was made for a path; else the status is 1, and the files are as they were.
 -- If a file may be replaced, the unfinished file of an earlier command to the same path may be gone
--- before, where it might be removed.
+-- before, where it might be removed. What the path led to might be replaced; if QEMU holds that,
+-- nothing was made or removed.
 abbrev pub IsMadeOrNot :
-    Bool → List ℕ → Type 0 → (Option (List ℕ → List ℕ) → Option Around → Type 0)
+    Bool → List ℕ → Type 0 → Type 0 → (Option (List ℕ → List ℕ) → Option Around → Type 0)
     → Option (List ℕ → List ℕ) → Option (List ℕ → List ℕ) → Option Around → Option Around → ℕ
     → Type 0
-IsMadeOrNot force target Might Made old new before after status =
-    ((status ≡ 0) × IsSoOnceCleared force old before target Might Made)
+IsMadeOrNot force target Might MightReplace Made old new before after status =
+    ((status ≡ 0) × IsSoOnceCleared force old before target Might Made × IsUnheld before target
+    × MightReplace)
     ⊎ ((status ≡ 1) × IsSoOnceCleared force old before target Might
-    (λ files around. (new ≡ files) × (after ≡ around)))
+    (λ files around. (new ≡ files) × (after ≡ around))
+    × IfHeld before target ((new ≡ old) × (after ≡ before)))
 
 -- an image was converted to a new file of that format, by how it is opened
 abbrev pub IsConvertedTo :
@@ -135,8 +140,8 @@ IsConvertedTo (New.Qcow2 settings) how c files new around after =
     IsNewlyMade (IsQcow2Copy how c.source.now (format_by settings)) c.force files new around after
     c.target.now
 
--- The same, where the unfinished file of an earlier command might be removed if it is none of the
--- files of the image.
+-- The same, where the unfinished file of an earlier command might be removed, and what the path led
+-- to replaced, if it is none of the files of the image.
 abbrev pub IsNewlyConverted :
     Opening → Convert → Option (List ℕ → FileStatus) → Option (List ℕ → FileStatus)
     → Option (List ℕ → List ℕ) → Option (List ℕ → List ℕ) → Option Around → Option Around → ℕ
@@ -144,27 +149,33 @@ abbrev pub IsNewlyConverted :
 IsNewlyConverted how c statuses left_overs old new before after status =
     IsMadeOrNot c.force c.target.now
     (IsApart how old statuses left_overs c.source.now c.target.now)
+    (IsNoSourceAt how old statuses before c.source.now c.target.now)
     (λ files around. IsConvertedTo c.target_format how c files new around after)
     old new before after status
 
--- a new image was made, where the unfinished file of an earlier command might be removed if it is
--- none of the files of the layer below
+-- a new image was made, where the unfinished file of an earlier command might be removed, and what
+-- the path led to replaced, if it is none of the files of the layer below
 abbrev pub IsCreated :
     Create → Option (List ℕ → FileStatus) → Option (List ℕ → FileStatus)
     → Option (List ℕ → List ℕ) → Option (List ℕ → List ℕ) → Option Around → Option Around → ℕ
     → Type 0
 IsCreated c statuses left_overs old new before after status =
     IsMadeOrNot c.force c.target.now (IsApartBelow c c.backing old statuses left_overs)
+    (IsNoSourceAtBelow c c.backing old statuses before)
     (λ files around. IsNewlyMade (IsNewImage c) c.force files new around after c.target.now)
     old new before after status
 
--- With status 0 it was converted to a file that is there; else the status is 1, and the first bytes
--- of the disk may have been put over those of that file.
+-- With status 0 it was converted to a file that is there, and is none of the image's; else the status is 1, and the first bytes
+-- of the disk may have been put over those of that file, unless QEMU holds it.
 abbrev pub IsConvertedInto :
-    Opening → Convert → Option (List ℕ → List ℕ) → Option (List ℕ → List ℕ) → ℕ → Type 0
-IsConvertedInto how c old new status =
-    ((status ≡ 0) × IsConvertedOver how old new c.source.now c.target.now)
-    ⊎ ((status ≡ 1) × IsPartlyConvertedOver how old new c.source.now c.target.now)
+    Opening → Convert → Option (List ℕ → FileStatus) → Option (List ℕ → List ℕ)
+    → Option (List ℕ → List ℕ) → Option Around → ℕ → Type 0
+IsConvertedInto how c statuses old new before status =
+    ((status ≡ 0) × IsConvertedOver how old new c.source.now c.target.now
+    × IsUnheld before c.target.now
+    × IsNoSourceAt how old statuses before c.source.now c.target.now)
+    ⊎ ((status ≡ 1) × IsPartlyConvertedOver how old new c.source.now c.target.now
+    × IfHeld before c.target.now (new ≡ old))
 
 -- the one or the other, by whether the file has to be there
 abbrev pub IsConvertedBy :
@@ -174,15 +185,16 @@ abbrev pub IsConvertedBy :
 IsConvertedBy how c statuses left_overs old new before after status =
     (c.existing ≡ false
     → IsNewlyConverted how c statuses left_overs old new before after status)
-    × (c.existing ≡ true → (after ≡ before) × IsConvertedInto how c old new status)
+    × (c.existing ≡ true → (after ≡ before) × IsConvertedInto how c statuses old new before status)
 
--- With status 0 a raw image got another size; else the status is 1, and the files are as they were.
--- No file was made.
+-- With status 0 a raw image got another size, whose file is a regular one that QEMU doesn't hold; else
+-- the status is 1, and the files are as they were. No file was made.
 abbrev pub IsResizedOrNot :
-    Resize → Option (List ℕ → List ℕ) → Option (List ℕ → List ℕ)
+    Resize → Option (List ℕ → FileStatus) → Option (List ℕ → List ℕ) → Option (List ℕ → List ℕ)
     → Option Around → Option Around → ℕ → Type 0
-IsResizedOrNot r old new before after status =
-    (after ≡ before) × (((status ≡ 0) × IsImageResized r old new)
+IsResizedOrNot r statuses old new before after status =
+    (after ≡ before) × (((status ≡ 0) × IsImageResized r old new × IsUnheld before r.file.now
+    × IsRegular statuses r.file.now)
     ⊎ ((status ≡ 1) × (new ≡ old)))
 
 -- What a command did to the files of a host, and what its status says of them, where that is told.
@@ -199,11 +211,13 @@ IsPerformed refused (Asked.Create c) statuses left_overs old new before after st
 IsPerformed refused (Asked.Measure c) statuses left_overs old new before after status =
     IsAsked refused (Q.Measure c) old new before after status
 IsPerformed refused (Asked.Resize c) statuses left_overs old new before after status =
-    IsResizedOrNot c old new before after status
+    IsResizedOrNot c statuses old new before after status
 IsPerformed refused (Asked.Help kind) statuses left_overs old new before after status =
     IsAsked refused (Q.Help kind) old new before after status
 IsPerformed refused Asked.Version statuses left_overs old new before after status =
     IsAsked refused Q.Version old new before after status
+IsPerformed refused (Asked.Settings format) statuses left_overs old new before after status =
+    IsAsked refused (Q.Settings format) old new before after status
 IsPerformed refused (Asked.Info c) statuses left_overs old new before after status =
     IsAsked refused (Q.Info c) old new before after status
 IsPerformed refused (Asked.Map c) statuses left_overs old new before after status =

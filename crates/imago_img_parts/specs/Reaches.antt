@@ -30,11 +30,13 @@ abbrev reach_to : Bool → Measured → Reach
 reach_to alone (M.File file) = read_when alone (R.File file)
 reach_to alone (M.Size size) = R.Nothing
 
--- What a command asks for: help and the version for none, and `vet` and `resize` for their file
--- alone. With `--alone` and without, it makes or changes its OUT, or FILE of `resize`, and no other.
+-- What a command asks for: help, the version and the settings of a format for none, and `vet` and
+-- `resize` for their file alone. With `--alone` and without, it makes or changes its OUT, or FILE of
+-- `resize`, and no other.
 abbrev pub reach_by : Command → Reach
 reach_by (Asked.Help kind) = R.Nothing
 reach_by Asked.Version = R.Nothing
+reach_by (Asked.Settings format) = R.Nothing
 reach_by (Asked.Info c) = read_when c.opening.alone (R.File c.file)
 reach_by (Asked.Map c) = read_when c.opening.alone (R.File c.file)
 reach_by (Asked.Check c) = read_when c.opening.alone (R.File c.file)

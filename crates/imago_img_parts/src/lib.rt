@@ -7,6 +7,7 @@
 #![tactic(auto)]
 
 pub mod commands;
+pub mod locks;
 mod question;
 mod reach;
 pub mod run;

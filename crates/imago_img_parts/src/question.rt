@@ -3,6 +3,7 @@
 
 use imago_words::command::{Check, Compare, Info, Map, Measure, Vet};
 use imago_words::kind::Kind;
+use imago_words::settings::TargetFormat;
 
 /// A question. Its answer changes no file.
 #[derive(Clone, Copy)]
@@ -11,6 +12,8 @@ pub enum Question<'a> {
     Help(Option<Kind>),
     /// Which version of the program this is.
     Version,
+    /// What `-o` may say of a new file of that format.
+    Settings(TargetFormat),
     /// What an image is.
     Info(Info<'a>),
     /// Where the bytes of an image's disk stand.

@@ -13,7 +13,7 @@ pub fn reach_of<'a>(command: &Command<'a>) -> Reach<'a>
     ensures { result ≡ reach_by command.now }
 {
     match command {
-        Command::Help(_) | Command::Version => Reach::Nothing,
+        Command::Help(_) | Command::Version | Command::Settings(_) => Reach::Nothing,
         Command::Info(asked) => read_when(asked.opening.alone, Reach::File(asked.file)),
         Command::Map(asked) => read_when(asked.opening.alone, Reach::File(asked.file)),
         Command::Check(asked) => read_when(asked.opening.alone, Reach::File(asked.file)),

@@ -45,7 +45,7 @@ use imago_qcow2_check::fault::Verdict;
 use imago_words::command::{
     Check, Command, Compare, Convert, Create, Info, Map, Measure, Output, Resize, Vet,
 };
-use imago_words::help::{Help, VERSION};
+use imago_words::help::{Help, SettingsHelp, VERSION};
 use imago_words::kind::Kind;
 use imago_words::refusal::Refusal;
 use imago_words::settings::{NewFormat, Settings};
@@ -177,6 +177,7 @@ pub fn perform<H: Host, W: Write, E: Write>(
         Command::Measure(asked) => ask(&*host, Question::Measure(asked), refused, output, errors),
         Command::Help(kind) => ask(&*host, Question::Help(kind), refused, output, errors),
         Command::Version => ask(&*host, Question::Version, refused, output, errors),
+        Command::Settings(of) => ask(&*host, Question::Settings(of), refused, output, errors),
         Command::Info(asked) => ask(&*host, Question::Info(asked), refused, output, errors),
         Command::Map(asked) => ask(&*host, Question::Map(asked), refused, output, errors),
         Command::Check(asked) => ask(&*host, Question::Check(asked), refused, output, errors),
@@ -322,8 +323,8 @@ fn resize<H: Host, W: Write, E: Write>(
     errors: &mut E,
 ) -> u8
     ensures most { result ≤ 1 }
-    ensures resized { IsResizedOrNot asked.entry (H.contents host.old) (H.contents host.new)
-        (H.around host.old) (H.around host.new) result }
+    ensures resized { IsResizedOrNot asked.entry (H.statuses host.old) (H.contents host.old)
+        (H.contents host.new) (H.around host.old) (H.around host.new) result }
 {
     match resize_image(host, asked) {
         Ok(()) => {
@@ -364,7 +365,7 @@ fn untold(refused: u8, question: Question<'_>) -> u8
     ensures untold { result ≡ untold refused question.entry }
 {
     match question {
-        Question::Help(_) | Question::Version => refused,
+        Question::Help(_) | Question::Version | Question::Settings(_) => refused,
         Question::Info(_) | Question::Map(_) | Question::Check(_) => 1,
         Question::Measure(_) | Question::Vet(_) => 1,
         Question::Compare(_) => 2,
@@ -401,6 +402,7 @@ fn answer<H: Host, W: Write, E: Write>(
     match question {
         Question::Help(kind) => printed(write!(output, "{}", Help(kind))),
         Question::Version => printed(writeln!(output, "imago-img {VERSION}")),
+        Question::Settings(of) => printed(write!(output, "{}", SettingsHelp(of))),
         Question::Info(asked) => describe(host, asked, output, errors),
         Question::Map(asked) => list(host, asked, output),
         Question::Check(asked) => look_for_faults(host, asked, output, errors),

@@ -2,12 +2,13 @@
 //! The system's files, where commands find them and make them.
 ghost use Rattle.std.specs.Prelude.{None};
 
+use crate::locks::is_held_in;
 use imago_copy::target::Target;
 use imago_disk::system::{SystemFiles, kind_of};
 use imago_img_files::host::{FileKind, FileStatus, Files, Host, LeftOver, Making, UNFINISHED};
 use std::alloc::Global;
 use std::fs::{self, File, Metadata, OpenOptions, Permissions};
-use std::io::{self, ErrorKind};
+use std::io::{self, ErrorKind, Read};
 use std::os::unix::fs::{FileExt, MetadataExt, OpenOptionsExt, PermissionsExt, fchown};
 
 /// How many bytes the blocks have in which a file's status tells what it takes.
@@ -29,6 +30,12 @@ const OWNER_ALONE: u32 = 0o600;
 const PERMISSIONS: u32 = 0o777;
 
 const GROUP: u32 = 0o070;
+
+/// The file in which the system tells which ranges of files are locked.
+const LOCKS: &str = "/proc/locks";
+
+/// How much of it is read, in bytes: some 70000 locks.
+const MOST_OF_LOCKS: u64 = 4 << 20;
 
 /// The system's files, as the commands read and make them: those that are read are kept open, as
 /// [`SystemFiles`] does, until a new file gets its path.
@@ -165,6 +172,19 @@ impl<'a> Host for System<'a> {
         metadata.blocks().checked_mul(BLOCK_OF_STATUS)
     }
 
+    fn found(&self, path: &str) -> io::Result<Option<FileStatus>> {
+        match self.status(path) {
+            Ok(there) => Ok(Some(there)),
+            Err(cause) if cause.kind() == ErrorKind::NotFound => Ok(None),
+            Err(cause) => Err(cause),
+        }
+    }
+
+    // What the system doesn't tell of locks is no failure of a command.
+    fn is_held(&self, path: &str) -> io::Result<bool> {
+        Ok(self.has_lock(path).unwrap_or(false))
+    }
+
     // That something can't be shown is no failure of the copy.
     fn show_progress(&self, done: u64, total: u64, hundredths: u64) {
         let _ = eprint!(self.runtime(); "\r{done} of {total} bytes ({hundredths} %)");
@@ -238,6 +258,26 @@ impl<'a> Host for System<'a> {
 }
 
 impl<'a> System<'a> {
+    /// Whether the system tells a lock by which QEMU holds the file of a path.
+    fn has_lock(&self, path: &str) -> io::Result<bool> {
+        let file = fs::metadata(self.runtime(), path)?;
+        let text = self.locks()?;
+        match str::from_utf8(&text) {
+            Ok(text) => Ok(is_held_in(text, file.dev(), file.ino())),
+            Err(_) => Ok(false),
+        }
+    }
+
+    /// What the system tells of locks, as far as it is read.
+    fn locks(&self) -> io::Result<Vec<u8>> {
+        let mut text = Vec::new(self.alloc());
+        if kind_of(&fs::metadata(self.runtime(), LOCKS)?) == FileKind::Regular {
+            let file = File::open(self.runtime(), LOCKS)?;
+            file.take(MOST_OF_LOCKS).read_to_end(&mut text)?;
+        }
+        Ok(text)
+    }
+
     /// The path that a new file is to have: what is there already is followed through its links.
     fn final_path(&self, path: &str) -> io::Result<String> {
         match self.real_path(path) {

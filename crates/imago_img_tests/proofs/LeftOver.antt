@@ -33,16 +33,17 @@ module _ (gone : List ℕ) where
 
 -- the unfinished file of a copy to a path is gone
 pub left_gone :
-    (path gone : List ℕ) (files now : List MemoryFile) (unfinished : ℕ) → gone ≡ unfinished_path path
+    (path gone : List ℕ) (files now : List MemoryFile) (unfinished : ℕ) (held : List ℕ → Bool)
+    → gone ≡ unfinished_path path
     → now ≡ files_without gone files
     → IsWithoutLeftOver (Some (file_bytes files)) (Some (file_bytes now))
-    (Some (record { there = has_file files; unfinished = unfinished; beside = unfinished_path }))
-    (Some (record { there = has_file now; unfinished = unfinished; beside = unfinished_path })) path
-left_gone path gone files now unfinished is removed =
+    (Some (record { there = has_file files; unfinished = unfinished; beside = unfinished_path; held = held }))
+    (Some (record { there = has_file now; unfinished = unfinished; beside = unfinished_path; held = held })) path
+left_gone path gone files now unfinished held is removed =
     let left : List ℕ = unfinished_path path in
     let e : now ≡ files_without left files = removed ∙ ap (λ g. files_without g files) is in (
       file_bytes now,
-      record { there = has_file now; unfinished = unfinished; beside = unfinished_path },
+      record { there = has_file now; unfinished = unfinished; beside = unfinished_path; held = held },
       refl,
       refl,
       record {
@@ -52,5 +53,6 @@ left_gone path gone files now unfinished is removed =
         still_there = λ other differ. ap (λ fs. has_file fs other) e ∙ same_paths left files other differ;
         unfinished = refl;
         beside = refl;
+        held = refl;
       },
     )

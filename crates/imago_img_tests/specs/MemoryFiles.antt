@@ -2,12 +2,14 @@
 -- SPDX-License-Identifier: MIT
 use Rattle.std.specs.Prelude.{ℕ, Bool, false, ◌||◌, List, [], ◌∷◌, ◌++◌, length, Option, Some, None}
 use Rattle.std.specs.Prelude.{codes, filter, if◌then◌else◌, not}
+use Rattle.std.specs.List.{list_any}
 use Rattle.std.specs.Str.{bytes_eq}
 use Rattle.std.specs.String.{string_bytes}
 use Rattle.imago_images.specs.declared.files.FileKind.{FileKind}
 use Rattle.imago_images.specs.declared.files.FileKind.TheVariants as Kind
 use Rattle.imago_images.specs.declared.files.FileStatus.{FileStatus}
 use Rattle.imago_img_tests.specs.declared.memory_host.MemoryFile.{MemoryFile}
+use Rattle.imago_img_tests.specs.declared.memory_host.MemoryHost.{MemoryHost}
 use Rattle.imago_img_tests.specs.declared.memory_host.Nature.{Nature}
 use Rattle.imago_img_tests.specs.declared.memory_host.Nature.TheVariants as Of
 
@@ -21,6 +23,10 @@ file_bytes (file ∷ files) path =
 abbrev pub has_file : List MemoryFile → List ℕ → Bool
 has_file [] path = false
 has_file (file ∷ files) path = bytes_eq (string_bytes file.path) path || has_file files path
+
+-- a host lets QEMU hold the file of that path
+abbrev pub holds : MemoryHost → List ℕ → Bool
+holds h path = list_any (λ held. bytes_eq (string_bytes held) path) h.held.items
 
 -- the files of other paths
 abbrev pub files_without : List ℕ → List MemoryFile → List MemoryFile

@@ -51,6 +51,8 @@ pub struct MemoryHost {
     finishes: bool,
     /// How many new files are neither finished nor abandoned.
     unfinished: u64,
+    /// The paths of files that QEMU holds.
+    held: Vec<String>,
     /// How much of a copy was shown to be done.
     shown: Cell<u64>,
     asked: Asked,

@@ -17,6 +17,8 @@ pub struct PairHost {
     out: Vec<u8>,
     /// How many times something may be put into a file.
     appends: u64,
+    /// Whether QEMU holds both files.
+    held: bool,
 }
 
 /// A file that is written over.

@@ -11,6 +11,7 @@ mod compressed;
 mod existing;
 mod formats;
 mod headers;
+mod held;
 mod layers;
 mod lines;
 mod new_images;

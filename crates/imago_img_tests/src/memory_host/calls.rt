@@ -32,7 +32,7 @@ impl Nature {
 }
 
 impl MemoryHost {
-    ghost use Rattle.imago_img_tests.specs.MemoryFiles.{file_bytes, file_status};
+    ghost use Rattle.imago_img_tests.specs.MemoryFiles.{file_bytes, file_status, holds};
 
     /// No files. Something may be put into a new one that many times, and then it gets its path or
     /// doesn't.
@@ -43,6 +43,7 @@ impl MemoryHost {
             appends,
             finishes,
             unfinished: 0,
+            held: Vec::new(alloc),
             shown: Cell::new(0),
             asked: Asked::new(alloc),
         }
@@ -88,6 +89,19 @@ impl MemoryHost {
             inode,
         })?;
         Ok(())
+    }
+
+    /// Lets QEMU hold the file of a path.
+    pub fn hold(&mut self, path: &str) -> Result<(), AllocError> {
+        self.held.push(String::from_str(self.alloc, path)?)?;
+        Ok(())
+    }
+
+    /// Whether QEMU holds the file of a path.
+    fn holds(&self, path: &str) -> bool
+        ensures { result ≡ holds self.now path.now }
+    {
+        self.held.iter().any(|held| held.as_str() == path)
     }
 
     /// How many files there are.
@@ -277,7 +291,7 @@ impl WritableFiles for MemoryHost {
 }
 
 impl Host for MemoryHost {
-    ghost use Rattle.imago_img_tests.specs.MemoryFiles.{file_status, has_file};
+    ghost use Rattle.imago_img_tests.specs.MemoryFiles.{file_status, has_file, holds};
     ghost use Rattle.imago_img_tests.specs.MemoryFiles.{unfinished_path};
 
     type Target = MemoryTarget;
@@ -288,6 +302,7 @@ impl Host for MemoryHost {
       there = has_file h.files.items;
       unfinished = h.unfinished;
       beside = unfinished_path;
+      held = holds h;
     }) };
 
     ghost left_overs = { λ h. Some (λ path. file_status h.files.items (unfinished_path path)) };
@@ -308,6 +323,22 @@ impl Host for MemoryHost {
         self.asked.note(Call::Look, path);
         let file = self.file(path).ok()?;
         Some(file.bytes.len() as u64)
+    }
+
+    fn found(&self, path: &str) -> io::Result<Option<FileStatus>> {
+        self.asked.note(Call::Look, path);
+        let Ok(file) = self.file(path) else {
+            return Ok(None);
+        };
+        if matches!(file.nature, Nature::Barred) {
+            return Err(io::Error::from(ErrorKind::PermissionDenied));
+        }
+        Ok(Some(self.status_by_itself(path)?))
+    }
+
+    fn is_held(&self, path: &str) -> io::Result<bool> {
+        self.asked.note(Call::Look, path);
+        Ok(self.holds(path))
     }
 
     fn show_progress(&self, done: u64, _total: u64, _hundredths: u64) {

@@ -61,7 +61,13 @@ impl PairHost {
             out_path: String::from_str(alloc, out.0)?,
             out: out.1,
             appends,
+            held: false,
         })
+    }
+
+    /// Lets QEMU hold both files.
+    pub fn hold(&mut self) {
+        self.held = true;
     }
 
     /// The bytes of the file of a path, if there is one.
@@ -132,6 +138,7 @@ impl Host for PairHost {
       there = has_path h;
       unfinished = 0;
       beside = λ path. path;
+      held = λ _. h.held;
     }) };
 
     fn run_at(&self, _path: &str, _offset: u64, most: u64) -> (u64, bool) {
@@ -140,6 +147,17 @@ impl Host for PairHost {
 
     fn size_on_disk(&self, _path: &str) -> Option<u64> {
         None
+    }
+
+    fn found(&self, path: &str) -> io::Result<Option<FileStatus>> {
+        if self.bytes(path).is_none() {
+            return Ok(None);
+        }
+        Ok(Some(self.status(path)?))
+    }
+
+    fn is_held(&self, _path: &str) -> io::Result<bool> {
+        Ok(self.held)
     }
 
     fn show_progress(&self, _done: u64, _total: u64, _hundredths: u64) {}

@@ -16,7 +16,7 @@ static NEW: [&str; 3] = ["out.raw", "out.raw.imago-img-unfinished", "."];
 /// A command line with which no other file is opened, its status, and the files that it names.
 type Row = (&'static str, u8, &'static [&'static str]);
 
-static ALONE: [Row; 13] = [
+static ALONE: [Row; 14] = [
     ("vet one.qcow2", 0, &["one.qcow2"]),
     ("vet one.raw", 0, &["one.raw"]),
     ("vet top.qcow2", 2, &["top.qcow2"]),
@@ -25,6 +25,8 @@ static ALONE: [Row; 13] = [
     ("vet disk.vmdk", 2, &["disk.vmdk"]),
     ("info --alone one.qcow2", 0, &["one.qcow2"]),
     ("info --alone top.qcow2", 1, &["top.qcow2"]),
+    // What isn't in the descriptor's folder isn't looked at for its size either.
+    ("info outside.vmdk", 0, &["outside.vmdk"]),
     ("map --alone outside.vmdk", 1, &["outside.vmdk"]),
     ("check --alone one.qcow2", 0, &["one.qcow2"]),
     (
@@ -47,8 +49,11 @@ static BESIDE: [Row; 3] = [
     ("check disk.vmdk", 2, &["disk.vmdk"]),
 ];
 
-/// Command lines over a descriptor whose extents stand in two files by turns, and their statuses.
-static BY_TURNS: [(&str, u8); 2] = [("info turns.vmdk", 0), ("check turns.vmdk", 2)];
+/// A command line over a descriptor whose extents stand in two files by turns, its status, and how
+/// often it looks at each file: where it is without links, what it is, and how much room it takes.
+type Turns = (&'static str, u8, u64);
+
+static BY_TURNS: [Turns; 2] = [("info turns.vmdk", 0, 3), ("check turns.vmdk", 2, 2)];
 
 /// Any image of that folder is opened.
 const IN_FOLDER: Opening = Opening {
@@ -139,14 +144,14 @@ fn opens_by_turns(rt: &impl Abort, host: &MemoryHost) {
     assert_eq!(rt; looks_by_turns(host), (2, 2));
 }
 
-/// Tries a command line over such a descriptor, which asks for no more.
-fn asks_by_turns(rt: &impl Abort, alloc: Global, host: MemoryHost, row: (&str, u8)) {
-    let (words, status) = row;
+/// Tries a command line over such a descriptor, which asks once for each.
+fn asks_by_turns(rt: &impl Abort, alloc: Global, host: MemoryHost, row: Turns) {
+    let (words, status, looks) = row;
     let made = asked_of(alloc, host, words);
     assert!(rt; made.is_ok(), "{words}");
     let Ok((host, found)) = made else { return };
     assert_eq!(rt; found, status, "{words}");
-    assert_eq!(rt; looks_by_turns(&host), (2, 2), "{words}");
+    assert_eq!(rt; looks_by_turns(&host), (looks, looks), "{words}");
 }
 
 #[test]

@@ -4,14 +4,14 @@
 use super::set_up::{Case, check_cases};
 
 /// Command lines that are done.
-static CASES: [Case; 13] = [
+static CASES: [Case; 16] = [
     Case {
         words: "info disk.vmdk",
         appends: 0,
         finishes: true,
         status: 0,
         output: "image: \"disk.vmdk\"\nfile format: vmdk\nvirtual size: 2 KiB (2048 bytes)\n\
-            disk size: 105 B\n\
+            disk size: 626 B\n\
             extent: FLAT, 512 bytes from 0 of \"a.bin\"\nextent: ZERO, 1024 bytes\n\
             extent: FLAT, 512 bytes from 512 of \"parts/b.bin\"\n",
         errors: "imago-img: warning: \"a.bin\": 6 bytes, and its extent ends at 512: the missing \
@@ -135,9 +135,55 @@ static CASES: [Case; 13] = [
         finishes: true,
         status: 0,
         output: "image: \"esx.vmdk\"\nfile format: vmdk\nvirtual size: 512 B (512 bytes)\n\
-            disk size: 76 B\n\
-            extent: VMFS, 512 bytes from 0 of \"esx-flat.vmdk\"\n",
+            disk size: 620 B\n\
+            extent: VMFS, 512 bytes from 0 of \"esx-flat.vmdk\"\n\
+            Format specific information:\n\x20   cid: 1054196535\n\
+            \x20   parent cid: 4294967295\n\x20   create type: \"vmfs\"\n",
         errors: "",
+        written: None,
+    },
+    Case {
+        words: "info --json esx.vmdk",
+        appends: 0,
+        finishes: true,
+        status: 0,
+        output: "{ \"filename\": \"esx.vmdk\", \"format\": \"vmdk\", \"virtual-size\": 512, \
+            \"actual-size\": 620, \"extents\": [\n\
+            { \"type\": \"VMFS\", \"length\": 512, \"filename\": \"esx-flat.vmdk\", \
+            \"offset\": 0, \"file-length\": 512 }], \"format-specific\": { \"type\": \"vmdk\", \
+            \"data\": { \"cid\": 1054196535, \"parent-cid\": 4294967295, \
+            \"create-type\": \"vmfs\", \"extents\": [\n\
+            { \"virtual-size\": 512, \"filename\": \"esx-flat.vmdk\", \"format\": \"VMFS\" }\
+            ] } } }\n",
+        errors: "",
+        written: None,
+    },
+    Case {
+        words: "info --json /vm/disk.vmdk",
+        appends: 0,
+        finishes: true,
+        status: 0,
+        output: "{ \"filename\": \"/vm/disk.vmdk\", \"format\": \"vmdk\", \
+            \"virtual-size\": 512, \"actual-size\": 571, \"extents\": [\n\
+            { \"type\": \"FLAT\", \"length\": 512, \"filename\": \"/vm/flat.bin\", \
+            \"offset\": 0, \"file-length\": 512 }], \"format-specific\": { \"type\": \"vmdk\", \
+            \"data\": { \"extents\": [\n\
+            { \"virtual-size\": 512, \"filename\": \"/vm/flat.bin\", \"format\": \"FLAT\" }\
+            ] } } }\n",
+        errors: "",
+        written: None,
+    },
+    // What isn't in the descriptor's folder isn't counted.
+    Case {
+        words: "info outside.vmdk",
+        appends: 0,
+        finishes: true,
+        status: 0,
+        output: "image: \"outside.vmdk\"\nfile format: vmdk\n\
+            virtual size: 512 B (512 bytes)\ndisk size: 58 B\n\
+            extent: FLAT, 512 bytes from 0 of \"/etc/secret\"\n",
+        errors: "imago-img: warning: \"/etc/secret\": not in the descriptor's folder; \
+            --allow-outside permits it\n",
         written: None,
     },
     Case {

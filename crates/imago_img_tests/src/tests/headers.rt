@@ -24,11 +24,11 @@ const HEADER: Parts = &[
     (99, b"\x04\0\0\0\x68"),
 ];
 
-/// Headers that are refused, and yet told by `info`.
-static UNOPENED: [Row; 6] = [
+/// Headers that are refused, and yet told by `info`, with what may be done about them.
+static UNOPENED: [Row; 7] = [
     (
         &[(79, b"\x02")],
-        "the header says corrupt, which isn't supported",
+        "the header says corrupt, which isn't supported; qemu-img check -r all FILE may repair it",
     ),
     (
         &[(79, b"\x04")],
@@ -36,7 +36,8 @@ static UNOPENED: [Row; 6] = [
     ),
     (
         &[(79, b"\x10")],
-        "the header says extended L2 entries, which isn't supported",
+        "the header says extended L2 entries, which isn't supported; qemu-img convert -O qcow2 \
+        FILE PLAIN makes a plain image of it",
     ),
     (
         &[(72, b"\x80")],
@@ -45,16 +46,23 @@ static UNOPENED: [Row; 6] = [
     // Left open, corrupt, with extended L2 entries, and bit 9.
     (
         &[(78, b"\x02\x13")],
-        "the header says corrupt, which isn't supported",
+        "the header says corrupt, which isn't supported; qemu-img check -r all FILE may repair it",
     ),
     (
         &[(35, b"\x01")],
-        "the header says encryption, which isn't supported",
+        "the header says encryption, which isn't supported; with its secret in the file KEY, \
+        qemu-img convert --object secret,id=key,file=KEY --image-opts \
+        driver=qcow2,file.filename=FILE,encrypt.key-secret=key -O qcow2 PLAIN makes a plain \
+        image of it",
+    ),
+    (
+        &[(46, b"\x08")],
+        "the header says an L1 table that passes the file's end",
     ),
 ];
 
 /// Headers that are refused.
-static ROWS: [Row; 12] = [
+static ROWS: [Row; 11] = [
     // Versions.
     (
         &[(7, b"\x04")],
@@ -98,10 +106,6 @@ static ROWS: [Row; 12] = [
     (
         &[(46, b"\x02\x08")],
         "the header says an L1 table that doesn't begin at a cluster's start",
-    ),
-    (
-        &[(46, b"\x08")],
-        "the header says an L1 table that passes the file's end",
     ),
 ];
 
@@ -274,11 +278,61 @@ const DATA_NAMES: Parts = &[
 /// One whose name isn't UTF-8.
 const DATA_NAME_BYTES: Parts = &[(79, b"\x04"), (104, b"DATA\0\0\0\x06\xff.data")];
 
+/// An L1 table of 2^22 + 1 entries at 2048, where the file ends, and a table of snapshots there.
+const LOST_TABLES: Parts = &[
+    (37, b"\x40\0\x01"),
+    (46, b"\x08"),
+    (63, b"\x01"),
+    (70, b"\x08"),
+];
+
+/// A LUKS header at 1024, with a key in its second slot.
+const LUKS: Parts = &[
+    (35, b"\x02"),
+    (
+        104,
+        b"\x05\x37\xbe\x77\0\0\0\x10\0\0\0\0\0\0\x04\0\0\0\0\0\0\0\x02\x50",
+    ),
+    (1024, b"LUKS\xba\xbe\0\x01aes"),
+    (1064, b"cbc-essiv:sha256"),
+    (1096, b"sha1"),
+    (1128, b"\0\0\x0f\xc8\0\0\0\x20"),
+    (1188, b"\0\0\x05\x9e5e243c1f"),
+    (1280, b"\0\xac\x71\xf3\0\0\x11\xf3"),
+    (1320, b"\0\0\0\x08\0\0\x0f\xa0"),
+    (1608, b"\0\0\x02\0"),
+];
+
+/// Two bitmaps in a directory of 64 bytes at 1024. The name of the second one isn't UTF-8.
+const BITMAPS: Parts = &[
+    (95, b"\x01"),
+    (104, b"\x23\x85\x28\x75\0\0\0\x18\0\0\0\x02"),
+    (127, b"\x40\0\0\0\0\0\0\x04"),
+    (1039, b"\x02\x01\x10\0\x02"),
+    (1048, b"b0"),
+    (1071, b"\x01\x01\x09\0\x01"),
+    (1080, b"\xff"),
+];
+
+/// The same with a directory of 63 bytes.
+const LOST_BITMAPS: Parts = &[
+    (95, b"\x01"),
+    (104, b"\x23\x85\x28\x75\0\0\0\x18\0\0\0\x02"),
+    (127, b"\x38\0\0\0\0\0\0\x04"),
+    (1039, b"\x02\x01\x10\0\x02"),
+    (1048, b"b0"),
+    (1071, b"\x01\x01\x09\0\x01"),
+    (1080, b"\xff"),
+];
+
 /// What `info` prints of files that aren't opened: one that was left open, is corrupt, and has
 /// extended L2 entries and bit 9, and one that is encrypted and corrupt. Then of files with
 /// external data: as `qemu-img` 7.2, the name is told where the header has it, and whether it is
-/// raw where the data stand there. The last two are opened.
-static TOLD_UNOPENED: [(Parts, &str); 7] = [
+/// raw where the data stand there; the last two of these are opened. Then of one whose L1 table
+/// passes its end, as does its table of snapshots, and is too long besides; one with snapshots of a
+/// machine; one that has a LUKS header, and one that has lost it; and two with bitmaps, of which the
+/// second one has lost their directory.
+static TOLD_UNOPENED: [(Parts, &str); 13] = [
     (
         &[(78, b"\x02\x13")],
         "image: \"a\"\nfile format: qcow2\nvirtual size: 2 KiB (2048 bytes)\ndisk size: 2 KiB\n\
@@ -292,8 +346,10 @@ static TOLD_UNOPENED: [(Parts, &str); 7] = [
     (
         &[(35, b"\x01"), (79, b"\x02")],
         "image: \"a\"\nfile format: qcow2\nvirtual size: 2 KiB (2048 bytes)\ndisk size: 2 KiB\n\
+        encrypted: yes\n\
         cluster_size: 512\nFormat specific information:\n\x20   compat: 1.1\n\
         \x20   compression type: zlib\n\x20   lazy refcounts: false\n\x20   refcount bits: 16\n\
+        \x20   encrypt:\n\x20       format: aes\n\
         \x20   corrupt: true\n\x20   extended l2: false\n\
         can't be opened: the header says encryption, which isn't supported\n\
         can't be opened: the header says corrupt, which isn't supported\n",
@@ -340,6 +396,95 @@ static TOLD_UNOPENED: [(Parts, &str); 7] = [
         \x20   compression type: zlib\n\x20   lazy refcounts: false\n\x20   refcount bits: 16\n\
         \x20   corrupt: false\n\x20   extended l2: false\n",
     ),
+    (
+        LOST_TABLES,
+        "image: \"a\"\nfile format: qcow2\nvirtual size: 2 KiB (2048 bytes)\ndisk size: 2 KiB\n\
+        cluster_size: 512\nFormat specific information:\n\x20   compat: 1.1\n\
+        \x20   compression type: zlib\n\x20   lazy refcounts: false\n\x20   refcount bits: 16\n\
+        \x20   corrupt: false\n\x20   extended l2: false\n\
+        can't be opened: its L1 table has 33554440 bytes, and 32 MiB is the limit\n\
+        can't be opened: the header says an L1 table that passes the file's end\n\
+        can't be opened: the table of snapshots passes the file's end\n",
+    ),
+    (
+        SNAPSHOTS,
+        "image: \"a\"\nfile format: qcow2\nvirtual size: 2 KiB (2048 bytes)\ndisk size: 2 KiB\n\
+        encrypted: yes\n\
+        cluster_size: 512\nsnapshots: 2\n\
+        \x20   id \"1\", name \"a\u{fffd}\", state of 256 B, date 1970-01-01 00:00:01 UTC, \
+        VM clock 00:00:01.000\n\
+        \x20   id \"2\", name \"\", state of 4 B, date 2000-02-29 12:34:56 UTC, \
+        VM clock 26:01:59.250, icount 7\n\
+        Format specific information:\n\x20   compat: 1.1\n\
+        \x20   compression type: zlib\n\x20   lazy refcounts: false\n\x20   refcount bits: 16\n\
+        \x20   encrypt:\n\x20       format: luks\n\
+        \x20   corrupt: false\n\x20   extended l2: false\n\
+        can't be opened: the header says encryption, which isn't supported\n",
+    ),
+    (
+        LUKS,
+        "image: \"a\"\nfile format: qcow2\nvirtual size: 2 KiB (2048 bytes)\ndisk size: 2 KiB\n\
+        encrypted: yes\n\
+        cluster_size: 512\nFormat specific information:\n\x20   compat: 1.1\n\
+        \x20   compression type: zlib\n\x20   lazy refcounts: false\n\x20   refcount bits: 16\n\
+        \x20   encrypt:\n\x20       ivgen alg: \"essiv\"\n\
+        \x20       ivgen hash alg: \"sha256\"\n\x20       hash alg: \"sha1\"\n\
+        \x20       cipher alg: \"aes-256\"\n\x20       uuid: \"5e243c1f\"\n\
+        \x20       format: luks\n\x20       cipher mode: \"cbc\"\n\x20       slots:\n\
+        \x20           [0]:\n\x20               active: false\n\
+        \x20               key offset: 0\n\
+        \x20           [1]:\n\x20               active: true\n\
+        \x20               iters: 4595\n\x20               key offset: 4096\n\
+        \x20               stripes: 4000\n\
+        \x20           [2]:\n\x20               active: false\n\
+        \x20               key offset: 0\n\
+        \x20           [3]:\n\x20               active: false\n\
+        \x20               key offset: 0\n\
+        \x20           [4]:\n\x20               active: false\n\
+        \x20               key offset: 0\n\
+        \x20           [5]:\n\x20               active: false\n\
+        \x20               key offset: 0\n\
+        \x20           [6]:\n\x20               active: false\n\
+        \x20               key offset: 0\n\
+        \x20           [7]:\n\x20               active: false\n\
+        \x20               key offset: 262144\n\
+        \x20       payload offset: 2068480\n\x20       master key iters: 1438\n\
+        \x20   corrupt: false\n\x20   extended l2: false\n\
+        can't be opened: the header says encryption, which isn't supported\n",
+    ),
+    (
+        &[
+            (35, b"\x02"),
+            (104, b"\x05\x37\xbe\x77\0\0\0\x10\0\0\0\0\0\0\x08"),
+        ],
+        "image: \"a\"\nfile format: qcow2\nvirtual size: 2 KiB (2048 bytes)\ndisk size: 2 KiB\n\
+        encrypted: yes\n\
+        cluster_size: 512\nFormat specific information:\n\x20   compat: 1.1\n\
+        \x20   compression type: zlib\n\x20   lazy refcounts: false\n\x20   refcount bits: 16\n\
+        \x20   encrypt:\n\x20       format: luks\n\
+        \x20   corrupt: false\n\x20   extended l2: false\n\
+        can't be opened: the header says encryption, which isn't supported\n",
+    ),
+    (
+        BITMAPS,
+        "image: \"a\"\nfile format: qcow2\nvirtual size: 2 KiB (2048 bytes)\ndisk size: 2 KiB\n\
+        cluster_size: 512\nFormat specific information:\n\x20   compat: 1.1\n\
+        \x20   compression type: zlib\n\x20   lazy refcounts: false\n\x20   bitmaps:\n\
+        \x20       [0]:\n\x20           flags:\n\x20               [0]: auto\n\
+        \x20           name: \"b0\"\n\x20           granularity: 65536\n\
+        \x20       [1]:\n\x20           flags:\n\x20               [0]: in-use\n\
+        \x20           name: \"\u{fffd}\"\n\x20           granularity: 512\n\
+        \x20   refcount bits: 16\n\
+        \x20   corrupt: false\n\x20   extended l2: false\n",
+    ),
+    (
+        LOST_BITMAPS,
+        "image: \"a\"\nfile format: qcow2\nvirtual size: 2 KiB (2048 bytes)\ndisk size: 2 KiB\n\
+        cluster_size: 512\nFormat specific information:\n\x20   compat: 1.1\n\
+        \x20   compression type: zlib\n\x20   lazy refcounts: false\n\x20   bitmaps: can't be told\n\
+        \x20   refcount bits: 16\n\
+        \x20   corrupt: false\n\x20   extended l2: false\n",
+    ),
 ];
 
 /// What `info --json` prints of an encrypted file with snapshots.
@@ -347,10 +492,12 @@ const TOLD_JSON: &str = "{ \"filename\": \"a\", \"format\": \"qcow2\", \"virtual
     \"actual-size\": 2048, \"cluster-size\": 512, \"snapshots\": [\
     { \"id\": \"1\", \"name\": \"a\u{fffd}\", \"vm-state-size\": 256, \"date-sec\": 1, \
     \"date-nsec\": 2, \"vm-clock-sec\": 1, \"vm-clock-nsec\": 3 }, \
-    { \"id\": \"2\", \"name\": \"\", \"vm-state-size\": 4, \"date-sec\": 0, \"date-nsec\": 0, \
-    \"vm-clock-sec\": 0, \"vm-clock-nsec\": 0 }], \"dirty-flag\": false, \"encrypted\": true, \
+    { \"id\": \"2\", \"name\": \"\", \"vm-state-size\": 4, \"date-sec\": 951827696, \
+    \"date-nsec\": 0, \"vm-clock-sec\": 93719, \"vm-clock-nsec\": 250000000, \"icount\": 7 }], \
+    \"dirty-flag\": false, \"encrypted\": true, \
     \"format-specific\": { \"type\": \"qcow2\", \"data\": { \"compat\": \"1.1\", \
-    \"compression-type\": \"zlib\", \"refcount-bits\": 16, \"lazy-refcounts\": false, \
+    \"compression-type\": \"zlib\", \"refcount-bits\": 16, \
+    \"encrypt\": { \"format\": \"luks\" }, \"lazy-refcounts\": false, \
     \"corrupt\": false, \"extended-l2\": false } }, \"unsupported\": \
     [\"the header says encryption, which isn't supported\"] }\n";
 
@@ -372,7 +519,8 @@ const TOLD_DATA_BYTES: &str = "{ \"filename\": \"a\", \"format\": \"qcow2\", \
     \"corrupt\": false, \"extended-l2\": false } }, \"unsupported\": \
     [\"the header says external data file, which isn't supported\"] }\n";
 
-/// Two snapshots in a table at 1024. The first one has 8 bytes besides, and its name isn't UTF-8.
+/// Two snapshots in a table at 1024. The first one has 8 bytes besides, and its name isn't UTF-8. The
+/// second one has 24, and counts instructions.
 const SNAPSHOTS: Parts = &[
     (35, b"\x02"),
     (63, b"\x02"),
@@ -384,8 +532,67 @@ const SNAPSHOTS: Parts = &[
     (1070, b"\x01\0"),
     (1072, b"1a\xff"),
     (1093, b"\x01"),
-    (1115, b"\x04"),
-    (1120, b"2"),
+    (1096, b"\x38\xbb\xbc\xf0"),
+    (1106, b"\x55\x3c\xb6\x9a\xd8\x80"),
+    (1119, b"\x18"),
+    (1127, b"\x04"),
+    (1143, b"\x07"),
+    (1144, b"2"),
+];
+
+/// What it prints of a file whose tables pass its end.
+const TOLD_LOST: &str = "{ \"filename\": \"a\", \"format\": \"qcow2\", \"virtual-size\": 2048, \
+    \"actual-size\": 2048, \"cluster-size\": 512, \"dirty-flag\": false, \
+    \"format-specific\": { \"type\": \"qcow2\", \"data\": { \"compat\": \"1.1\", \
+    \"compression-type\": \"zlib\", \"refcount-bits\": 16, \
+    \"lazy-refcounts\": false, \"corrupt\": false, \"extended-l2\": false } }, \"unsupported\": \
+    [\"its L1 table has 33554440 bytes, and 32 MiB is the limit\", \
+    \"the header says an L1 table that passes the file's end\", \
+    \"the table of snapshots passes the file's end\"] }\n";
+
+/// What it prints of one with a LUKS header.
+const TOLD_LUKS: &str = "{ \"filename\": \"a\", \"format\": \"qcow2\", \"virtual-size\": 2048, \
+    \"actual-size\": 2048, \"cluster-size\": 512, \"dirty-flag\": false, \
+    \"encrypted\": true, \"format-specific\": { \"type\": \"qcow2\", \"data\": { \"compat\": \"1.1\", \
+    \"compression-type\": \"zlib\", \"refcount-bits\": 16, \
+    \"encrypt\": { \"format\": \"luks\", \"ivgen-alg\": \"essiv\", \
+    \"ivgen-hash-alg\": \"sha256\", \"hash-alg\": \"sha1\", \"cipher-alg\": \"aes-256\", \
+    \"cipher-mode\": \"cbc\", \"uuid\": \"5e243c1f\", \"slots\": [{ \"active\": false, \"key-offset\": 0 }, \
+    { \"active\": true, \"iters\": 4595, \"stripes\": 4000, \"key-offset\": 4096 }, \
+    { \"active\": false, \"key-offset\": 0 }, \
+    { \"active\": false, \"key-offset\": 0 }, \
+    { \"active\": false, \"key-offset\": 0 }, \
+    { \"active\": false, \"key-offset\": 0 }, \
+    { \"active\": false, \"key-offset\": 0 }, \
+    { \"active\": false, \"key-offset\": 262144 }], \"payload-offset\": 2068480, \
+    \"master-key-iters\": 1438 }, \"lazy-refcounts\": false, \"corrupt\": false, \"extended-l2\": false } }, \"unsupported\": \
+    [\"the header says encryption, which isn't supported\"] }\n";
+
+/// What it prints of one with bitmaps.
+const TOLD_BITMAPS: &str = "{ \"filename\": \"a\", \"format\": \"qcow2\", \"virtual-size\": 2048, \
+    \"actual-size\": 2048, \"cluster-size\": 512, \"dirty-flag\": false, \
+    \"format-specific\": { \"type\": \"qcow2\", \"data\": { \"compat\": \"1.1\", \
+    \"compression-type\": \"zlib\", \"refcount-bits\": 16, \
+    \"bitmaps\": [{ \"flags\": [\"auto\"], \"name\": \"b0\", \"granularity\": 65536 }, \
+    { \"flags\": [\"in-use\"], \"name\": \"\u{fffd}\", \"granularity\": 512 }], \"lazy-refcounts\": false, \"corrupt\": false, \"extended-l2\": false } } }\n";
+
+/// What it prints of one with bitmaps that can't be told.
+const TOLD_NO_BITMAPS: &str =
+    "{ \"filename\": \"a\", \"format\": \"qcow2\", \"virtual-size\": 2048, \
+    \"actual-size\": 2048, \"cluster-size\": 512, \"dirty-flag\": false, \
+    \"format-specific\": { \"type\": \"qcow2\", \"data\": { \"compat\": \"1.1\", \
+    \"compression-type\": \"zlib\", \"refcount-bits\": 16, \
+    \"bitmaps\": null, \"lazy-refcounts\": false, \"corrupt\": false, \"extended-l2\": false } } }\n";
+
+/// Files that `info --json` tells, and what it prints.
+static TOLD_BY_JSON: [(Parts, &str); 7] = [
+    (SNAPSHOTS, TOLD_JSON),
+    (DATA_NAMES, TOLD_DATA),
+    (DATA_NAME_BYTES, TOLD_DATA_BYTES),
+    (LOST_TABLES, TOLD_LOST),
+    (LUKS, TOLD_LUKS),
+    (BITMAPS, TOLD_BITMAPS),
+    (LOST_BITMAPS, TOLD_NO_BITMAPS),
 ];
 
 #[test]
@@ -393,16 +600,10 @@ fn images_that_arent_opened_are_told(rt: HostRuntime) {
     for (parts, output) in &TOLD_UNOPENED {
         check_changed(&rt, rt.alloc(), parts, "info -f qcow2 a", (0, output, ""));
     }
-    let line = "info --json -f qcow2 a";
-    check_changed(&rt, rt.alloc(), SNAPSHOTS, line, (0, TOLD_JSON, ""));
-    check_changed(&rt, rt.alloc(), DATA_NAMES, line, (0, TOLD_DATA, ""));
-    check_changed(
-        &rt,
-        rt.alloc(),
-        DATA_NAME_BYTES,
-        line,
-        (0, TOLD_DATA_BYTES, ""),
-    );
+    for (parts, output) in &TOLD_BY_JSON {
+        let line = "info --json -f qcow2 a";
+        check_changed(&rt, rt.alloc(), parts, line, (0, output, ""));
+    }
     let refused = "imago-img: \"a\": the header says external data file, which isn't supported\n";
     let line = "info --alone -f qcow2 a";
     check_changed(&rt, rt.alloc(), DATA_NAMES, line, (1, "", refused));

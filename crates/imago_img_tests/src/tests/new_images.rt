@@ -39,10 +39,21 @@ Images are identical.
 /// What is printed of a file without a fault.
 const SOUND: &str = "No errors were found on the image.\n";
 
+/// What is printed of the options of a qcow2 file.
+const SETTINGS: &str = "Supported qcow2 options:
+  cluster_size=<size>    - Cluster size: a power of two, 512 to 2M (default 64k)
+  compat=<str>           - Format version: 0.10 or v2, 1.1 or v3 (default 1.1)
+  compression_type=<str> - Only zlib is accepted
+  extended_l2=<bool (on/off)> - Only off is accepted
+  lazy_refcounts=<bool (on/off)> - Only off is accepted
+  preallocation=<str>    - off or metadata: all tables are written (default off)
+  refcount_bits=<num>    - Only 16 is accepted
+";
+
 /// A command line, its status, and what it prints or tells as an error.
 type Row = (&'static str, u8, &'static str, &'static str);
 
-static ROWS: [Row; 23] = [
+static ROWS: [Row; 28] = [
     ("convert -O qcow2 disk.raw a.qcow2", 0, "", ""),
     ("compare disk.raw a.qcow2", 0, ALIKE, ""),
     ("check a.qcow2", 0, SOUND, ""),
@@ -133,6 +144,38 @@ static ROWS: [Row; 23] = [
         "measure disk.raw",
         0,
         "required size: 70144\nfully allocated size: 70144\n",
+        "",
+    ),
+    // The largest disks: of files that can be made, and would grow past what can be counted.
+    (
+        "measure --size 2P -O qcow2",
+        0,
+        "required size: 33751040\nfully allocated size: 2252143463694336\n",
+        "",
+    ),
+    (
+        "measure --size 1E -O qcow2 -o cluster_size=2M",
+        0,
+        "required size: 23068672\nfully allocated size: 1152927002196443136\n",
+        "",
+    ),
+    (
+        "measure --size 2049T -O qcow2",
+        1,
+        "",
+        "imago-img: \"--size\": the disk is too large for clusters of this length\n",
+    ),
+    // What -o may say.
+    (
+        "create -o help more.raw 1G",
+        0,
+        "There are no options for raw.\n",
+        "",
+    ),
+    (
+        "convert -O qcow2 -o compat=1.1,help nowhere.raw",
+        0,
+        SETTINGS,
         "",
     ),
 ];

@@ -213,8 +213,9 @@ static ROWS: [Row; 22] = [
     ),
 ];
 
-/// A file whose last byte is the first of a cluster, and one that ends where that cluster begins.
-static CUT: [PartsRow; 2] = [
+/// A file whose last byte is the first of a cluster, one that ends where that cluster begins, and one
+/// of a disk of 1025 bytes, whose last cluster begins where the file ends.
+static CUT: [PartsRow; 3] = [
     (
         "last.qcow2",
         2049,
@@ -244,10 +245,24 @@ static CUT: [PartsRow; 2] = [
             (1536, b"1"),
         ],
     ),
+    (
+        "rest.qcow2",
+        2048,
+        &[
+            (0, VERSION_2),
+            (23, b"\x09"),
+            (30, b"\x04\x01"),
+            (39, b"\x01"),
+            (46, b"\x02"),
+            (512, b"\x80\0\0\0\0\0\x04"),
+            (1032, b"\x80\0\0\0\0\0\x06\0\x80\0\0\0\0\0\x08"),
+            (1536, b"1"),
+        ],
+    ),
 ];
 
 /// Disks that are written to raw files.
-static CONVERTED: [Case; 4] = [
+static CONVERTED: [Case; 10] = [
     Case {
         words: "convert one.qcow2 out.raw",
         appends: 99,
@@ -285,6 +300,65 @@ static CONVERTED: [Case; 4] = [
         errors: "imago-img: warning: \"cut.qcow2\": 2048 bytes, and the image uses it up to 2560: \
             the missing bytes read as 0\n",
         written: Some((2048, &[(1024, b"1")])),
+    },
+    // Where no other file is opened, such a disk is refused, to whatever it is to be written.
+    Case {
+        words: "convert --alone last.qcow2 out.raw",
+        appends: 99,
+        finishes: true,
+        status: 0,
+        output: "",
+        errors: "",
+        written: Some((2048, &[(512, b"2"), (1024, b"1")])),
+    },
+    Case {
+        words: "convert --alone cut.qcow2 out.raw",
+        appends: 99,
+        finishes: true,
+        status: 1,
+        output: "",
+        errors: "imago-img: \"cut.qcow2\": 2048 bytes, and the image uses it up to 2560; \
+            imago-img check tells where\n",
+        written: None,
+    },
+    Case {
+        words: "convert --alone -q -O qcow2 cut.qcow2 out.raw",
+        appends: 99,
+        finishes: true,
+        status: 1,
+        output: "",
+        errors: "imago-img: \"cut.qcow2\": 2048 bytes, and the image uses it up to 2560; \
+            imago-img check tells where\n",
+        written: None,
+    },
+    Case {
+        words: "convert --alone -n cut.qcow2 disk.dev",
+        appends: 99,
+        finishes: true,
+        status: 1,
+        output: "",
+        errors: "imago-img: \"cut.qcow2\": 2048 bytes, and the image uses it up to 2560; \
+            imago-img check tells where\n",
+        written: None,
+    },
+    Case {
+        words: "convert rest.qcow2 out.raw",
+        appends: 99,
+        finishes: true,
+        status: 0,
+        output: "",
+        errors: "",
+        written: Some((1025, &[(512, b"1")])),
+    },
+    Case {
+        words: "convert --alone rest.qcow2 out.raw",
+        appends: 99,
+        finishes: true,
+        status: 1,
+        output: "",
+        errors: "imago-img: \"rest.qcow2\": 2048 bytes, and the image uses it up to 2049; \
+            imago-img check tells where\n",
+        written: None,
     },
 ];
 

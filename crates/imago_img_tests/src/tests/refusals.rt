@@ -169,7 +169,7 @@ static ROWS: [Row; 29] = [
         "info /vm/disk.vmdk",
         0,
         "image: \"/vm/disk.vmdk\"\nfile format: vmdk\nvirtual size: 512 B (512 bytes)\n\
-        disk size: 59 B\n\
+        disk size: 571 B\n\
         extent: FLAT, 512 bytes from 0 of \"/vm/flat.bin\"\n",
         "",
     ),

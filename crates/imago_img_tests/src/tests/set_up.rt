@@ -112,7 +112,8 @@ static FILES: [FileRow; 28] = [
     (
         "esx.vmdk",
         0,
-        b"# Disk DescriptorFile\nversion=1\ncreateType=\"vmfs\"\nRW 1 VMFS \"esx-flat.vmdk\"\n",
+        b"# Disk DescriptorFile\nversion=1\nCID=3ed5c337\nparentCID=ffffffff\n\
+        createType=\"vmfs\"\nRW 1 VMFS \"esx-flat.vmdk\"\n",
         Nature::Plain,
     ),
     ("esx-flat.vmdk", 509, b"esx", Nature::Plain),

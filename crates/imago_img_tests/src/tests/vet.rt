@@ -36,7 +36,7 @@ macro_rules! untold {
 
 /// The files. The images begin as those of the other tests do: clusters of 512 bytes, an L1 table at
 /// 512, and L2 tables behind it.
-static MORE: [PartsRow; 11] = [
+static MORE: [PartsRow; 12] = [
     (
         "zero.vmdk",
         49,
@@ -52,6 +52,16 @@ static MORE: [PartsRow; 11] = [
             0,
             b"# Disk DescriptorFile\nversion=1\nRW 1 FLAT \"a\\b.bin\" 0\nRW x ZERO\n\
             NOACCESS 1 ZERO\nRW 1 SPARSE \"c.vmdk\"\n\n\n\n",
+        )],
+    ),
+    // As QEMU writes it, in two sparse files.
+    (
+        "split.vmdk",
+        115,
+        &[(
+            0,
+            b"# Disk DescriptorFile\nversion=1\nCID=92f29a13\n\
+            createType=\"twoGbMaxExtentSparse\"\nRW 4194304 SPARSE \"split-s001.vmdk\"\n",
         )],
     ),
     // Encrypted, marked as corrupt, with an external data file, an unknown feature and a backing
@@ -115,7 +125,7 @@ static MORE: [PartsRow; 11] = [
     ("named.dmg", 7, &[(0, b"a disk\n")]),
 ];
 
-static CASES: [Case; 21] = [
+static CASES: [Case; 25] = [
     told!(
         "vet one.qcow2",
         0,
@@ -149,6 +159,30 @@ static CASES: [Case; 21] = [
          invalid at 54: a line of its descriptor is invalid\n\
          feature at 64: an extent may not be read\n\
          feature at 80: a line of its descriptor isn't supported\n"
+    ),
+    // A split disk of sparse files is refused by the name of its type.
+    told!(
+        "vet split.vmdk",
+        2,
+        "\"split.vmdk\" is refused:\n\
+         descriptor: it is a VMDK descriptor, whose lines QEMU reads in another way\n\
+         feature: its descriptor says the type twoGbMaxExtentSparse, which isn't supported\n\
+         feature at 79: a line of its descriptor isn't supported\n"
+    ),
+    untold!(
+        "info split.vmdk",
+        "imago-img: \"split.vmdk\": a VMDK image of the type twoGbMaxExtentSparse, which isn't \
+         supported; convert it with qemu-img\n"
+    ),
+    untold!(
+        "map split.vmdk",
+        "imago-img: \"split.vmdk\": a VMDK image of the type twoGbMaxExtentSparse, which isn't \
+         supported; convert it with qemu-img\n"
+    ),
+    untold!(
+        "convert split.vmdk out.raw",
+        "imago-img: \"split.vmdk\": a VMDK image of the type twoGbMaxExtentSparse, which isn't \
+         supported; convert it with qemu-img\n"
     ),
     // All reasons.
     told!(

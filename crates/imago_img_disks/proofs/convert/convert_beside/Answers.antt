@@ -12,7 +12,7 @@ end-requires g c =
       whole = whole_file c.args.how (contents c.args.host.now)
           (contents c.create.new.self) c.args.from.now c.args.to.now c.in_ok-size.size (g.H.Target.Target.made_for target)
           (g.H.Target.Target.made_for full) (g.H.Target.Target.contents target) (g.H.Target.Target.contents full)
-          c.fill_shown-target.result.1 created.same c.fill_shown-target.ensures.same c.in_ok-size.ensures created.empty
+          c.fill_shown-target.result.1 created.same c.fill_shown-target.ensures.same c.in_ok-size.ensures.size created.empty
           created.made_for c.fill_shown-target.ensures.filled;
     }
 

@@ -13,7 +13,7 @@ returns-in-Raw-clause-created g c =
     let asked = c.args.asked in
     let size = c.in_ok-size.size in
     newly_made (λ files file. file ≡ replicate (next_multiple_of size 512) 0) (IsNewImage asked)
-    (contents c.args.host.now) (new_image asked size (contents c.args.host.now) New.Raw c.in-Raw.is c.in_ok-size.ensures)
+    (contents c.args.host.now) (new_image asked size (contents c.args.host.now) New.Raw c.in-Raw.is c.in_ok-size.ensures.size)
     c.create_raw.result asked.force (contents c.create_raw.new.host) (around c.args.host.now)
     (around c.create_raw.new.host) asked.target.now c.create_raw.ensures.created
 
@@ -26,6 +26,6 @@ returns-in-Qcow2-clause-created g c =
     let settings = c.in-Qcow2.settings in
     newly_made (λ files file. IsEmptyFile (New.Qcow2 settings) asked.backing size file) (IsNewImage asked)
     (contents c.args.host.now)
-    (new_image asked size (contents c.args.host.now) (New.Qcow2 settings) c.in-Qcow2.is c.in_ok-size.ensures)
+    (new_image asked size (contents c.args.host.now) (New.Qcow2 settings) c.in-Qcow2.is c.in_ok-size.ensures.size)
     c.create_qcow2.result asked.force (contents c.create_qcow2.new.host) (around c.args.host.now)
     (around c.create_qcow2.new.host) asked.target.now c.create_qcow2.ensures.created

@@ -4,14 +4,27 @@ use Rattle.imago_file.specs.StorageParts.{faults_of}
 use Rattle.imago_disk.specs.Disk.{image_of, format_of}
 use Rattle.imago_images.proofs.PathSteps.{features_of, bytes_of}
 use Rattle.imago_images.specs.Way.{identity}
-use Rattle.imago_img_disks.proofs.Elsewhere.{no_source}
+use Rattle.imago_img_disks.specs.LeftOvers.{IsNoSourceAt}
+use Rattle.imago_img_disks.proofs.Elsewhere.{in_any_case, no_source, source_at}
 use Rattle.imago_img_disks.proofs.create.test_removal_above.Goals as goal
 
-pub returns : goal.returns
-returns g c =
+pub returns-clause-apart : goal.returns-clause-apart
+returns-clause-apart g c =
     let contents = g.H.Files.contents in
     let opened = g.H.File.HostFile.contents in
     no_source (view_over (features_of contents opened) faults_of (bytes_of contents opened)) c.args.how
     (contents c.args.host.now) (g.H.Files.statuses c.args.host.now) c.args.path.now
     (identity c.args.left.now.status) (format_of c.in_ok-disk.disk) (image_of c.in_ok-disk.disk) c.test_apart.result
     c.in_ok-disk.ensures.format c.in_ok-disk.ensures.files c.test_apart.ensures
+
+pub returns-clause-outside : goal.returns-clause-outside
+returns-clause-outside g c =
+    let contents = g.H.Files.contents in
+    let opened = g.H.File.HostFile.contents in
+    let host = c.args.host.now in
+    in_any_case c.test_apart.result
+    (IsNoSourceAt c.args.how (contents host) (g.H.Files.statuses host) (g.H.Host.around host) c.args.path.now c.args.to.now)
+    (source_at (view_over (features_of contents opened) faults_of (bytes_of contents opened)) c.args.how
+    (contents host) c.args.path.now c.args.to.now (format_of c.in_ok-disk.disk) (image_of c.in_ok-disk.disk)
+    (g.H.Files.statuses host) (g.H.Host.around host) c.in_ok-disk.ensures.format c.in_ok-disk.ensures.files
+    c.in_ok-test_target.ensures)

@@ -6,4 +6,4 @@ pub returns-in-Ok-clause-resized : goal.returns-in-Ok-clause-resized
 returns-in-Ok-clause-resized g c =
     let contents = g.H.Files.contents in
     image_resized c.args.asked (contents c.args.host.now) (contents c.set_length.new.self) c.in_ok-size.size
-    c.in_ok-size.ensures c.in-Ok.ensures.resized
+    c.in_ok-size.ensures.size c.in-Ok.ensures.resized

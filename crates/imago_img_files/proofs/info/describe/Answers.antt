@@ -9,4 +9,4 @@ pub returns-in-Ok : goal.returns-in-Ok
 returns-in-Ok g c = λ bytes has.
     subst (λ (text : List ℕ). reading_of c.args.how.accepted text
     ≡ Ok (map (extent_with string_bytes) c.in-Ok.described.extents.items, c.in-Ok.described.size))
-    (c.deref.ensures.value ∙ c.in_ok-text.ensures.told bytes has) c.in-Ok.ensures.reading
+    (c.deref-2.ensures.value ∙ c.in_ok-text.ensures.told bytes has) c.in-Ok.ensures.reading

@@ -11,8 +11,8 @@ pub returns-in-Raw : goal.returns-in-Raw
 returns-in-Raw g c = λ bytes has none.
     subst (λ (f : ImageFormat). NamesNothing c.args.how.accepted bytes f) (sym c.in-Raw.is) tt
 
-pub returns-in_ok-found_extents-in-Vmdk : goal.returns-in_ok-found_extents-in-Vmdk
-returns-in_ok-found_extents-in-Vmdk g c = λ bytes has none.
+pub returns-in_ok-extents-in-Vmdk : goal.returns-in_ok-extents-in-Vmdk
+returns-in_ok-extents-in-Vmdk g c = λ bytes has none.
     let described = c.in_ok-described-in-Vmdk.described in
     let apart : HaveNoFiles (map (extent_with string_bytes) described.extents.items) =
     subst (λ (es : List (Extent (String Global))). HaveNoFiles (map (extent_with string_bytes) es))

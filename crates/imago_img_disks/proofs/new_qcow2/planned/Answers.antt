@@ -1,0 +1,17 @@
+-- SPDX-License-Identifier: MIT
+use Rattle.imago_any_driver.specs.AnyDriver.{view_over}
+use Rattle.imago_file.specs.StorageParts.{faults_of}
+use Rattle.imago_disk.specs.Disk.{image_of, format_of}
+use Rattle.imago_images.proofs.PathSteps.{features_of, bytes_of}
+use Rattle.imago_img_disks.proofs.Elsewhere.{source_at}
+use Rattle.imago_img_disks.proofs.new_qcow2.planned.Goals as goal
+
+pub returns-clause-outside : goal.returns-clause-outside
+returns-clause-outside g c =
+    let contents = g.H.Files.contents in
+    let opened = g.H.File.HostFile.contents in
+    let host = c.args.host.now in
+    source_at (view_over (features_of contents opened) faults_of (bytes_of contents opened)) c.args.how
+    (contents host) c.args.from.now c.args.to.now (format_of c.in_ok-disk.disk) (image_of c.in_ok-disk.disk)
+    (g.H.Files.statuses host) (g.H.Host.around host) c.in_ok-disk.ensures.format c.in_ok-disk.ensures.files
+    c.in_ok-test_copy.ensures
