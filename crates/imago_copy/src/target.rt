@@ -41,12 +41,24 @@ impl Target for Vec<u8> {
 
     ghost made_for = { λ _. None };
 
-    fn append(&mut self, source: &[u8]) -> io::Result<()> {
+    fn append(&mut self, source: &[u8]) -> io::Result<()>
+        ensures appended { OnOk result
+            (IsAppended (Some self.old.items) (Some self.new.items) source.now) }
+        ensures refused { OnErr result
+            (IsPartlyAppended (Some self.old.items) (Some self.new.items) source.now) }
+        ensures left { OnErr result (self.new.items ≡ self.old.items) }
+    {
         self.extend_from_slice(source)?;
         Ok(())
     }
 
-    fn append_zeroes(&mut self, count: u64) -> io::Result<()> {
+    fn append_zeroes(&mut self, count: u64) -> io::Result<()>
+        ensures appended { OnOk result
+            (IsAppended (Some self.old.items) (Some self.new.items) (replicate count 0)) }
+        ensures refused { OnErr result
+            (IsPartlyAppended (Some self.old.items) (Some self.new.items) (replicate count 0)) }
+        ensures left { OnErr result (self.new.items ≡ self.old.items) }
+    {
         let Some(len) = self.len().checked_add(count as usize) else {
             return Err(io::Error::from(ErrorKind::OutOfMemory));
         };

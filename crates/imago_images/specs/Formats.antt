@@ -19,6 +19,12 @@ format_named name =
     (if bytes_eq name (codes "vmdk") then Some Vmdk else
     (if bytes_eq name (codes "qcow2") then Some Qcow2 else None))
 
+-- the name by which a command line and qcow2 headers know a format
+unfoldable pub name_of : ImageFormat → List ℕ
+name_of Raw = codes "raw"
+name_of Vmdk = codes "vmdk"
+name_of Qcow2 = codes "qcow2"
+
 -- the format that the name of a file ends in, if it does
 unfoldable pub format_by_name : List ℕ → Option ImageFormat
 format_by_name path =

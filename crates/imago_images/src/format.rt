@@ -20,7 +20,7 @@ pub enum ImageFormat {
 
 impl ImageFormat {
     ghost use Rattle.imago_images.specs.Formats.{format_named, format_by_name, taken_for};
-    ghost use Rattle.imago_images.specs.Formats.{said_for};
+    ghost use Rattle.imago_images.specs.Formats.{said_for, name_of};
 
     /// The format of that name, if one has it. `file` is an old name of `raw`, which headers may have
     /// for a backing file.
@@ -37,7 +37,10 @@ impl ImageFormat {
     }
 
     /// The name by which a command line and qcow2 headers know it.
-    pub fn name(self) -> &'static str {
+    #[tactic(auto, unfolding(crate::specs::Formats::name_of))]
+    pub fn name(self) -> &'static str
+        ensures { result.now ≡ name_of self }
+    {
         match self {
             ImageFormat::Raw => "raw",
             ImageFormat::Vmdk => "vmdk",
