@@ -7,16 +7,22 @@ use imago_img_files::guarded::Confined;
 use imago_img_parts::run::{run, unread_status};
 use imago_img_parts::system::System;
 use std::env::{self, Env};
-use std::io;
+use std::io::{self, BufWriter};
 use std::process::ExitCode;
 
 fn main(rt: HostRuntime) -> ExitCode {
-    let mut output = io::writer(&rt);
     let mut errors = rt.stderr();
     let words = match words(&rt) {
         Ok(words) => words,
         Err(refused) => {
             let _ = eprintln!(rt; "imago-img: the command line can't be read: {refused}");
+            return ExitCode::from(refused_status(&rt));
+        }
+    };
+    let mut output = match BufWriter::new(rt.alloc(), io::writer(&rt)) {
+        Ok(output) => output,
+        Err(refused) => {
+            let _ = eprintln!(rt; "imago-img: the output can't be written: {refused}");
             return ExitCode::from(refused_status(&rt));
         }
     };

@@ -32,7 +32,7 @@ taken_or other (Ok f) = f
 taken_or other (Err e) = other
 
 -- a file has one format by what is said
-one_format :
+pub one_format :
     (said : Option ImageFormat) (path bytes : List ℕ) (f g : ImageFormat)
     → IsFormatBy said path bytes f → IsFormatBy said path bytes g → f ≡ g
 one_format said path bytes f g h k = ap (taken_or f) (sym h ∙ k)
@@ -68,15 +68,6 @@ module _ {D St : Type 0} (view : D → View St) (how : Opening) where
       → IfSome known (λ files. HasSize how files path size)
   sized None path format x size e by image = tt
   sized (Some files) path format x size e by (layers, are, shown) = (format, layers, by, are, e ∙ shown.1)
-
-  -- the file of an opened image is one
-  pub image_there :
-      (known : Option (List ℕ → List ℕ)) (path : List ℕ) (format : ImageFormat) (x : FormatAccess D)
-      → IfSome known (λ files. IsFormatBy how.format path (files path) format)
-      → IfSome known (λ files. IsImageIn view how files path format x)
-      → IfSome known (λ files. IsImage how files path)
-  image_there None path format x by image = tt
-  image_there (Some files) path format x by (layers, are, shown) = (format, layers, by, are)
 
   -- a disk that was copied was appended
   pub appended_disk :
@@ -129,11 +120,6 @@ module _ {D St : Type 0} (view : D → View St) (how : Opening) where
 -- so is one whose size is told
 pub image_sized : (how : Opening) (files : List ℕ → List ℕ) (path : List ℕ) (size : ℕ) → HasSize how files path size → IsImage how files path
 image_sized how files path size (format, layers, by, are, e) = (format, layers, by, are)
-
--- the same by how the command line says that it is opened
-pub image_as_said : (how said : Opening) → how ≡ said → (known : Option (List ℕ → List ℕ)) (path : List ℕ)
-    → IfSome known (λ files. IsImage how files path) → IfSome known (λ files. IsImage said files path)
-image_as_said how said e known path h = subst (λ (o : Opening). IfSome known (λ files. IsImage o files path)) e h
 
 module _ {D St : Type 0} (view : D → View St) (how : Opening)
     (other : Option ImageFormat) (same_size : Bool) where

@@ -21,6 +21,7 @@ use Rattle.imago_qcow2_new.specs.declared.layout.Layout.{Layout}
 use Rattle.imago_qcow2_new.specs.Layout.{IsLayoutOf, StoresNothing, StoresAll, file_length, size_of}
 use Rattle.imago_qcow2_new.specs.Image.{IsNewFile, IsNewFileIn}
 use Rattle.imago_qcow2_new.specs.Names.{HasNoNames}
+use Rattle.imago_qcow2_new.specs.Space.{StoresData}
 use Rattle.imago_images.specs.declared.format.ImageFormat.{ImageFormat}
 use Rattle.imago_images.specs.Formats.{IsFormatBy}
 use Rattle.imago_images.specs.Images.{IsImageIn}
@@ -29,9 +30,10 @@ use Rattle.imago_file.specs.Names.{path_beside}
 use Rattle.imago_disk.specs.Shows.{HasSize}
 use Rattle.imago_img_files.specs.Openings.{how_by}
 use Rattle.imago_img_files.specs.Files.{Around, begun, ended, with_file, IsMade, IsWhole}
-use Rattle.imago_img_disks.specs.NewFiles.{HasNamesBelow, IsCopyBy, IsEmptyFile, IsFilledWith, IsNewImage, IsNewlyMade, IsQcow2Copy, IsAboveImage, IsPlanned, IsSizeBelow, IsSizeBy, format_by}
+use Rattle.imago_img_disks.specs.NewFiles.{HasNamesBelow, IsCopyBy, IsEmptyFile, IsFilledWith, IsNewImage, IsNewlyMade, IsQcow2Copy, IsAboveImage, IsPlanned, IsSizeBelow, IsSizeBy, IsLayoutFor, IsLayoutForImage, format_by}
 use Rattle.imago_disk.proofs.Shown.{shows_disk, disk_length}
 use Rattle.imago_img_disks.proofs.Disks.{image_sized, begun_ended, on_ok}
+use Rattle.imago_img_disks.proofs.OneDisk.{one_disk}
 
 pub then : {A E : Type 0} {P Q : Type 0} (r : Result A E) → (P → Q) → OnOk r P → OnOk r Q
 then (Ok x) f h = f h
@@ -126,13 +128,33 @@ each_of None P f = tt
 each_of (Some files) P f = f files
 
 module _ (how : Opening) (from : List ℕ) where
+  -- a layout for the disk of an opened image
+  pub layout_there : {D St A E : Type 0} (view : D → View St) (format : Format) (all : Bool) (known : Option (List ℕ → List ℕ))
+      (shape : ImageFormat) (x : FormatAccess D) (layout : A → Layout) (r : Result A E)
+      → IfSome known (λ files. IsFormatBy how.format from (files from) shape)
+      → IfSome known (λ files. IsImageIn view how files from shape x)
+      → IfOk r (λ l. IsLayoutOf format (view (driver x)).size (layout l)) → IfOk r (λ l. HasNoNames (layout l))
+      → (all ≡ true → IfOk r (λ l. StoresAll (layout l)))
+      → (all ≡ false → IsTrue (tells_bytes view x) → IfOk r (λ l. StoresData (layout l).clusters (value_at (disk view x))))
+      → IfOk r (λ l. IfSome known (λ files. IsLayoutForImage how from format all files (layout l)))
+  layout_there view format all known shape x layout (Err e) by image is none whole some = tt
+  layout_there view format all None shape x layout (Ok l) by image is none whole some = tt
+  layout_there view format all (Some files) shape x layout (Ok l) by image is none whole some =
+      let long : (view (driver x)).size ≡ length (disk view x) = disk_length view x (view (driver x)).size refl in (
+        disk view x,
+        shows_disk view how files from shape x by image,
+        (subst (λ (n : ℕ). IsLayoutOf format n (layout l)) long is, none, (λ e. some e image.2.0), whole),
+      )
+
   -- a copy by a layout is one in the layout's format
-  pub copy_in : (format : Format) (l : Layout) (planned : (size : ℕ) × IsLayoutOf format size l × HasNoNames l)
-      (known : Option (List ℕ → List ℕ))
+  pub copy_in : (format : Format) (all : Bool) (l : Layout) (known : Option (List ℕ → List ℕ))
+      → IfSome known (λ files. IsLayoutForImage how from format all files l)
       → IfSome known (λ files. (file : List ℕ) → IsCopyBy how from l files file
-      → IsQcow2Copy how from format files file)
-  copy_in format l (size, is, none) known = each_of known _ (λ files file (d, shows, rounded, new).
-      (d, shows, (l, record { disk = rounded; version = is.version; bits = is.bits; gaps = is.gaps; l1 = is.l1; tables = is.tables; counts = is.counts }, none, new)))
+      → IsQcow2Copy how from format all files file)
+  copy_in format all l None h = tt
+  copy_in format all l (Some files) (d, shows, is) = λ file (e, shown, rounded, new).
+      let same : d ≡ e = one_disk how files from d e shows shown in
+      (e, shown, (l, subst (λ (x : List Value). IsLayoutFor format all x l) same is, new))
 
   module _ {D St : Type 0} (view : D → View St) where
     -- what was put into a target is a copy

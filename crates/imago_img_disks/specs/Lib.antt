@@ -2,6 +2,7 @@
 pub mod Disks
 pub mod NewFiles
 pub mod Lines
+pub mod Rows
 pub mod Text
 pub mod Measures
 pub mod LeftOvers

@@ -21,7 +21,8 @@ use Rattle.imago_qcow2_new.specs.declared.format.Version.TheVariants as V
 use Rattle.imago_qcow2_new.specs.declared.layout.Layout.{Layout}
 use Rattle.imago_qcow2_new.specs.Layout.{IsLayoutOf, StoresNothing, StoresAll, size_of}
 use Rattle.imago_qcow2_new.specs.Names.{HasNames, HasNoNames}
-use Rattle.imago_qcow2_new.specs.Image.{IsNewFile, IsQcow2Of}
+use Rattle.imago_qcow2_new.specs.Image.{IsNewFile}
+use Rattle.imago_qcow2_new.specs.Space.{StoresData}
 use Rattle.imago_images.specs.declared.opening.Opening.{Opening}
 use Rattle.imago_file.specs.Names.{path_beside}
 use Rattle.imago_disk.specs.Shows.{HasSize, IsImage, ShowsDisk}
@@ -40,11 +41,27 @@ format_by s = record {
   gaps = G.Absent;
 }
 
--- a new qcow2 file of the disk that the image of a path has, with no layer below
+-- Where everything stands in a new qcow2 file of a disk, with no layer below: clusters are stored
+-- that have a byte which isn't 0, and no others, unless all are to be.
+abbrev pub IsLayoutFor : Format → Bool → List Value → Layout → Type 0
+IsLayoutFor format all disk l = IsLayoutOf format (length disk) l × HasNoNames l
+    × (all ≡ false → StoresData l.clusters (value_at disk)) × (all ≡ true → StoresAll l)
+
+-- the same of the disk that the image of a path has
+abbrev pub IsLayoutForImage :
+    Opening → List ℕ → Format → Bool → (List ℕ → List ℕ) → Layout → Type 0
+IsLayoutForImage how from format all files l =
+    (disk : List Value) × ShowsDisk how files from disk × IsLayoutFor format all disk l
+
+-- A new qcow2 file of the disk that the image of a path has. By the definitions of its reader and of
+-- its check its header has no fault; its disk is that one, with zeroes up to the next whole sector;
+-- each of its clusters is used once, and has the reference count 1; and no entry of a table has a
+-- fault. Each table is as small as it can be.
 abbrev pub IsQcow2Copy :
-    Opening → List ℕ → Format → (List ℕ → List ℕ) → List ℕ → Type 0
-IsQcow2Copy how from format files file =
-    (disk : List Value) × ShowsDisk how files from disk × IsQcow2Of format disk file
+    Opening → List ℕ → Format → Bool → (List ℕ → List ℕ) → List ℕ → Type 0
+IsQcow2Copy how from format all files file =
+    (disk : List Value) × ShowsDisk how files from disk
+    × ((l : Layout) × IsLayoutFor format all disk l × IsNewFile l (value_at disk) file)
 
 -- the same by a layout
 abbrev pub IsCopyBy :

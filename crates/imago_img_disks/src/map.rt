@@ -1,12 +1,20 @@
 // SPDX-License-Identifier: MIT
 //! Where the bytes of an image's disk stand.
-ghost use Rattle.std.specs.Prelude.{◌≡◌, ◌<◌, ◌≤◌, if◌then◌else◌, OnOk, IfSome};
-ghost use Rattle.imago_disk.specs.Shows.{IsImage};
+ghost use Rattle.std.specs.Prelude.{◌≡◌, ◌+◌, ◌<◌, ◌≤◌, ◌^◌, ◌∷◌, [], None, ℕ, false, true, if◌then◌else◌, IfOk, IfSome, OnOk};
+ghost use Rattle.std.specs.Io.KnownBytes.{Appends};
+ghost use Rattle.imago_access.specs.Chain.{driver, disk_value};
+ghost use Rattle.imago_access.specs.Target.{target, Target};
+ghost use Rattle.imago_drivers.specs.Place.{Value};
+ghost use Rattle.imago_copy.specs.LayerRuns.{AreLayerRuns};
+ghost use Rattle.imago_disk.specs.Disk.{image_of};
+ghost use Rattle.imago_img_files.specs.Printed.{HasPrinted};
+ghost use Rattle.imago_img_disks.specs.Rows.{HasRows, ShowsZeroes, TellsMap, TellsRows, ending, gap, heading, row_of, rows_text};
 ghost use Rattle.imago_img_disks.specs.declared.lines.LineKind.TheVariants as Kinds;
 
 use crate::image::{next_runs, not_read, opened};
 use crate::lines::{Line, LineKind, print_line, print_object};
 use imago_access::access::FormatAccess;
+use imago_any_driver::any::AnyDriver;
 use imago_copy::layers::{LayerRun, LayerRuns};
 use imago_copy::runs::{Kind, Run};
 use imago_disk::disk::Disk;
@@ -20,11 +28,11 @@ use imago_storage::storage::Storage;
 use std::alloc::{AllocError, Global};
 use std::io::{self, Write};
 
-/// How runs are printed.
-#[derive(Drop)]
-struct Printer<'a, W> {
-    output: &'a mut W,
+/// How rows are printed.
+#[derive(Clone, Copy)]
+struct Printer {
     json: bool,
+    /// Whether none was printed.
     is_first: bool,
 }
 
@@ -49,8 +57,9 @@ pub fn map_image<H: Host, W: Write>(
     json: bool,
     output: &mut W,
 ) -> Result<(), Failure>
-    ensures { OnOk result (IfSome (H.contents host.now)
-        (λ files. IsImage how files path.now)) }
+    ensures { OnOk result (HasPrinted (λ text. IfSome (H.contents host.now)
+        (λ files. TellsMap how json files path.now text)) (W.contents output.old)
+        (W.contents output.new)) }
 {
     let disk = opened(host, path, how)?;
     match print_image(host, &disk, json, output) {
@@ -66,15 +75,16 @@ fn print_image<H: Host, S: Storage, W: Write>(
     disk: &Disk<S>,
     json: bool,
     output: &mut W,
-) -> Result<io::Result<()>, Error> {
+) -> Result<io::Result<()>, Error>
+    ensures { let view = ⟦<AnyDriver<S> as FormatDriverInstance>⟧.view in
+        IfOk result (λ printed. OnOk printed (HasPrinted
+        (TellsRows json (disk_value view (image_of disk.now))
+        (view (driver (image_of disk.now))).size)
+        (W.contents output.old) (W.contents output.new))) }
+{
     let image = disk.image();
     let files = files_of(host.alloc(), image, json)?;
-    let mut printer = Printer {
-        output,
-        json,
-        is_first: true,
-    };
-    print_disk(host, image, &files, &mut printer)
+    print_disk(host, image, &files, json, output)
 }
 
 /// Prints the runs of the disk of an image whose layers have those files. An error is the image's
@@ -83,21 +93,57 @@ fn print_disk<H: Host, D: FormatDriverInstance, W: Write>(
     host: &H,
     image: &FormatAccess<D>,
     files: &[Vec<NamedFile<'_>>],
-    printer: &mut Printer<'_, W>,
-) -> Result<io::Result<()>, Error> {
+    json: bool,
+    output: &mut W,
+) -> Result<io::Result<()>, Error>
+    ensures { IfOk result (λ printed. OnOk printed (HasPrinted
+        (TellsRows json (disk_value D.view image.now) (D.view (driver image.now)).size)
+        (W.contents output.old) (W.contents output.new))) }
+{
+    // No effect at run time: the proof reads from it that the size fits 64 bits.
+    let _ = image.size();
     let mut runs = LayerRuns::new(image)?;
     let mut some = Vec::new(host.alloc());
     next_runs(&mut runs, &mut some)?;
-    if let Err(cause) = printer.begin() {
-        return Ok(Err(cause));
+    match print_heading(json, output) {
+        Ok(()) => {}
+        Err(cause) => return Ok(Err(cause)),
     }
+    let mut printer = Printer {
+        json,
+        is_first: true,
+    };
     while some.len() > 0 {
-        if let Err(cause) = print_runs(host, &some, files, printer) {
-            return Ok(Err(cause));
+        match print_runs(host, &some, files, &mut printer, output) {
+            Ok(()) => next_runs(&mut runs, &mut some)?,
+            Err(cause) => return Ok(Err(cause)),
         }
-        next_runs(&mut runs, &mut some)?;
     }
-    Ok(printer.end())
+    Ok(print_ending(json, output))
+}
+
+/// Prints what stands before the rows.
+fn print_heading<W: Write>(json: bool, output: &mut W) -> io::Result<()>
+    ensures { OnOk result (Appends (W.contents output.old) (W.contents output.new) (heading json)) }
+{
+    if json {
+        output.write_all(b"[")
+    } else {
+        output.write_all(
+            b"start                length               kind offset               file\n",
+        )
+    }
+}
+
+/// Prints what stands behind them.
+fn print_ending<W: Write>(json: bool, output: &mut W) -> io::Result<()>
+    ensures { OnOk result (Appends (W.contents output.old) (W.contents output.new) (ending json)) }
+{
+    if json {
+        output.write_all(b"]\n")
+    } else {
+        output.write_all(b"")
+    }
 }
 
 /// Prints runs of a disk whose layers have those files.
@@ -105,10 +151,19 @@ fn print_runs<H: Host, W: Write>(
     host: &H,
     runs: &[LayerRun],
     files: &[Vec<NamedFile<'_>>],
-    printer: &mut Printer<'_, W>,
-) -> io::Result<()> {
-    for run in runs {
-        print_run(host, *run, files, printer)?;
+    printer: &mut Printer,
+    output: &mut W,
+) -> io::Result<()>
+    ensures json { printer.new.json ≡ printer.old.json }
+    ensures rows { (leads : ℕ → Target) (value : ℕ → Value) (p q : ℕ)
+        → AreLayerRuns leads p runs.now q → q < 2 ^ 64 → ShowsZeroes leads value
+        → OnOk result (HasRows printer.old.json printer.old.is_first printer.new.is_first value p q
+        (W.contents output.old) (W.contents output.new)) }
+{
+    let mut rest = runs;
+    while let Some((run, behind)) = rest.split_first() {
+        rest = behind;
+        print_run(host, *run, files, printer, output)?;
     }
     Ok(())
 }
@@ -160,8 +215,15 @@ fn print_run<H: Host, W: Write>(
     host: &H,
     layer_run: LayerRun,
     files: &[Vec<NamedFile<'_>>],
-    printer: &mut Printer<'_, W>,
-) -> io::Result<()> {
+    printer: &mut Printer,
+    output: &mut W,
+) -> io::Result<()>
+    ensures json { printer.new.json ≡ printer.old.json }
+    ensures rows { (leads : ℕ → Target) (value : ℕ → Value) (p q : ℕ)
+        → AreLayerRuns leads p (layer_run ∷ []) q → q < 2 ^ 64 → ShowsZeroes leads value
+        → OnOk result (HasRows printer.old.json printer.old.is_first printer.new.is_first value p q
+        (W.contents output.old) (W.contents output.new)) }
+{
     let LayerRun { run, allocation } = layer_run;
     let depth = allocation.depth;
     match run.kind {
@@ -170,19 +232,29 @@ fn print_run<H: Host, W: Write>(
             storage,
             offset,
         } => match files.get(layer).and_then(|files| files.get(storage)) {
-            Some(file) => print_stored(host, file, &run, depth, offset, printer),
-            None => Ok(()),
+            Some(file) => print_stored(host, file, &run, depth, offset, printer, output),
+            None => printer.print(placeless(&run, LineKind::Data, depth), output),
         },
-        Kind::Special { .. } => printer.print(placeless(&run, LineKind::Compressed, depth)),
+        Kind::Special { .. } => {
+            printer.print(placeless(&run, LineKind::Compressed, depth), output)
+        }
         Kind::Zero => {
             let kind = zero_kind(allocation.is_present);
-            printer.print(placeless(&run, kind, depth))
+            printer.print(placeless(&run, kind, depth), output)
         }
     }
 }
 
 /// A run that stands at no offset of a file.
-fn placeless(run: &Run, kind: LineKind, depth: usize) -> Line<'static> {
+fn placeless(run: &Run, kind: LineKind, depth: usize) -> Line<'static>
+    ensures { result ≡ record {
+      start = run.now.at;
+      length = run.now.count;
+      kind = kind;
+      depth = depth;
+      place = None;
+    } }
+{
     Line {
         start: run.at,
         length: run.count,
@@ -204,7 +276,9 @@ fn zero_kind(is_present: bool) -> LineKind
 }
 
 /// What bytes of a file are, which stand between its holes or in one.
-fn stored_kind(is_data: bool) -> LineKind {
+fn stored_kind(is_data: bool) -> LineKind
+    ensures { result ≡ (if is_data then Kinds.Data else Kinds.Zero) }
+{
     if is_data {
         LineKind::Data
     } else {
@@ -219,53 +293,57 @@ fn print_stored<H: Host, W: Write>(
     run: &Run,
     depth: usize,
     start: u64,
-    printer: &mut Printer<'_, W>,
-) -> io::Result<()> {
+    printer: &mut Printer,
+    output: &mut W,
+) -> io::Result<()>
+    ensures json { printer.new.json ≡ printer.old.json }
+    ensures rows { (value : ℕ → Value) → run.now.at + run.now.count < 2 ^ 64
+        → OnOk result (HasRows printer.old.json printer.old.is_first printer.new.is_first value
+        run.now.at (run.now.at + run.now.count) (W.contents output.old) (W.contents output.new)) }
+{
     let mut done = 0;
     while done < run.count {
         let offset = start.saturating_add(done);
         let (length, is_data) = host.run_at(file.path, offset, run.count - done);
-        printer.print(Line {
+        let line = Line {
             start: run.at.saturating_add(done),
             length,
             kind: stored_kind(is_data),
             depth,
             place: Some((&file.printed, offset)),
-        })?;
+        };
+        printer.print(line, output)?;
         done += length;
     }
     Ok(())
 }
 
-impl<'a, W: Write> Printer<'a, W> {
-    fn begin(&mut self) -> io::Result<()> {
-        if self.json {
-            write!(self.output, "[")
-        } else {
-            writeln!(
-                self.output,
-                "{:<20} {:<20} {:<4} {:<20} file",
-                "start", "length", "kind", "offset"
-            )
-        }
+/// What parts a row from the one before, if that isn't the first one.
+fn gap_before(json: bool, is_first: bool) -> &'static [u8]
+    ensures { result.now ≡ gap json is_first }
+{
+    match (json, is_first) {
+        (true, false) => b",\n",
+        (true, true) => b"",
+        (false, _) => b"",
     }
+}
 
-    fn end(&mut self) -> io::Result<()> {
-        if self.json {
-            writeln!(self.output, "]")
-        } else {
-            Ok(())
-        }
-    }
-
-    fn print(&mut self, line: Line<'_>) -> io::Result<()> {
-        if !self.json {
-            return print_line(self.output, line);
-        }
-        if !self.is_first {
-            writeln!(self.output, ",")?;
-        }
+impl Printer {
+    /// Prints a row.
+    fn print<W: Write>(&mut self, line: Line<'_>, output: &mut W) -> io::Result<()>
+        ensures json { self.new.json ≡ self.old.json }
+        ensures behind { self.new.is_first ≡ false }
+        ensures row { OnOk result (Appends (W.contents output.old) (W.contents output.new)
+            (rows_text self.old.json self.old.is_first (row_of line.entry ∷ []))) }
+    {
+        let gap = gap_before(self.json, self.is_first);
         self.is_first = false;
-        print_object(self.output, line)
+        output.write_all(gap)?;
+        if self.json {
+            print_object(output, line)
+        } else {
+            print_line(output, line)
+        }
     }
 }

@@ -1,19 +1,32 @@
 // SPDX-License-Identifier: MIT
 //! How long the file of a new image would be.
-ghost use Rattle.std.specs.Prelude.{◌≡◌, IfOk, IfSome, OnOk};
-ghost use Rattle.imago_disk.specs.Shows.{IsImage};
-ghost use Rattle.imago_img_disks.specs.Measures.{IsFullLength, IsMeasured};
+ghost use Rattle.std.specs.Prelude.{◌≡◌, ℕ, IfOk, IfSome, IsTrue, OnOk};
+ghost use Rattle.std.specs.Int.{next_multiple_of};
+ghost use Rattle.std.specs.Io.KnownBytes.{Appends};
+ghost use Rattle.imago_access.specs.Chain.{driver};
+ghost use Rattle.imago_access.specs.Disk.{value_at};
+ghost use Rattle.imago_disk.specs.Disk.{image_of, is_told, values};
+ghost use Rattle.imago_disk.specs.Shows.{HasSize};
+ghost use Rattle.imago_qcow2_new.specs.Layout.{StoresNothing};
+ghost use Rattle.imago_qcow2_new.specs.Space.{StoresData};
+ghost use Rattle.imago_img_disks.specs.Measures.{AreLengths, AreLengthsOf, IsFullLength, IsMeasured};
+ghost use Rattle.imago_img_disks.specs.Measures.{StoresDataOf, lengths_text};
 ghost use Rattle.imago_img_files.specs.Openings.{how_by};
+ghost use Rattle.imago_img_files.specs.Printed.{HasPrinted};
 
 use crate::create::{layout_over, planned, raw_length};
 use crate::image::{FileDisk, opened, readable_size};
 use crate::new_qcow2::{NewQcow2, layout_for, new_format, of_format};
+use imago_any_driver::any::AnyDriver;
+use imago_drivers::drivers::FormatDriverInstance;
+use imago_images::file::PathStorage;
 use imago_img_files::failure::Failure;
 use imago_img_files::host::Host;
 use imago_img_files::opening::how_to_open;
+use imago_img_files::printed::is_json;
 use imago_qcow2_new::format::FormatError;
 use imago_qcow2_new::grown::grown_length;
-use imago_words::command::{Measure, Measured, Output};
+use imago_words::command::{Measure, Measured};
 use imago_words::settings::{NewFormat, Settings};
 use std::alloc::Global;
 use std::io::{self, Write};
@@ -37,15 +50,22 @@ pub fn measure<H: Host, W: Write>(
     asked: Measure<'_>,
     output: &mut W,
 ) -> Result<(), Failure>
-    ensures { OnOk result (IfSome (H.contents host.now) (IsMeasured asked.entry)) }
+    ensures { OnOk result (HasPrinted (λ text. IfSome (H.contents host.now)
+        (λ files. IsMeasured asked.entry files text)) (W.contents output.old) (W.contents output.new)) }
 {
     let lengths = lengths_asked(host, asked)?;
-    print_lengths(lengths, asked, output).map_err(Failure::Output)
+    match print_lengths(lengths, is_json(asked.output), output) {
+        Ok(()) => Ok(()),
+        Err(cause) => Err(Failure::Output(cause)),
+    }
 }
 
 /// Prints lengths as lines, or as a JSON object.
-fn print_lengths<W: Write>(lengths: Lengths, asked: Measure<'_>, output: &mut W) -> io::Result<()> {
-    if asked.output == Output::Json {
+fn print_lengths<W: Write>(lengths: Lengths, json: bool, output: &mut W) -> io::Result<()>
+    ensures { OnOk result (Appends (W.contents output.old) (W.contents output.new)
+        (lengths_text json lengths.required lengths.full)) }
+{
+    if json {
         writeln!(
             output,
             "{{\n    \"required\": {},\n    \"fully-allocated\": {}\n}}",
@@ -62,7 +82,8 @@ fn print_lengths<W: Write>(lengths: Lengths, asked: Measure<'_>, output: &mut W)
 
 /// The lengths of a new file of what is measured.
 fn lengths_asked<H: Host>(host: &H, asked: Measure<'_>) -> Result<Lengths, Failure>
-    ensures { OnOk result (IfSome (H.contents host.now) (IsMeasured asked.entry)) }
+    ensures { IfOk result (λ r. IfSome (H.contents host.now)
+        (λ files. AreLengthsOf asked.entry asked.entry.disk files r.required r.full)) }
 {
     match asked.disk {
         Measured::File(file) => lengths_of_file(host, file, asked),
@@ -72,8 +93,12 @@ fn lengths_asked<H: Host>(host: &H, asked: Measure<'_>) -> Result<Lengths, Failu
 
 /// The lengths of a new file of the disk of an image.
 fn lengths_of_file<H: Host>(host: &H, file: &str, asked: Measure<'_>) -> Result<Lengths, Failure>
-    ensures { OnOk result (IfSome (H.contents host.now)
-        (λ files. IsImage (how_by asked.entry.source_format asked.entry.opening) files file.now)) }
+    ensures { IfOk result (λ r. IfSome (H.contents host.now)
+        (λ files. (size : ℕ)
+        × HasSize (how_by asked.entry.source_format asked.entry.opening) files file.now size
+        × AreLengths asked.entry.target_format
+        (StoresDataOf (how_by asked.entry.source_format asked.entry.opening) files file.now) size
+        r.required r.full)) }
 {
     let how = how_to_open(asked.source_format, asked.opening);
     let disk = opened(host, file, how)?;
@@ -81,12 +106,19 @@ fn lengths_of_file<H: Host>(host: &H, file: &str, asked: Measure<'_>) -> Result<
 }
 
 /// The same, where the disk of the image of that path is opened.
-fn lengths_of_disk<H: Host>(
+fn lengths_of_disk<'a, H: Host>(
     alloc: Global,
     file: &str,
-    disk: &FileDisk<'_, H>,
+    disk: &FileDisk<'a, H>,
     asked: Measure<'_>,
-) -> Result<Lengths, Failure> {
+) -> Result<Lengths, Failure>
+    ensures { IfOk result (λ r. AreLengths asked.entry.target_format
+        (λ l. IsTrue (is_told ⟦<AnyDriver<PathStorage<'a, H>> as FormatDriverInstance>⟧.view
+        disk.now) → StoresData l.clusters (value_at
+        (values ⟦<AnyDriver<PathStorage<'a, H>> as FormatDriverInstance>⟧.view disk.now)))
+        (⟦<AnyDriver<PathStorage<'a, H>> as FormatDriverInstance>⟧.view
+        (driver (image_of disk.now))).size r.required r.full) }
+{
     let (size, _) = readable_size(alloc, file, disk)?;
     let NewFormat::Qcow2(settings) = asked.target_format else {
         return raw_lengths(alloc, file, size);
@@ -103,7 +135,9 @@ fn lengths_of_disk<H: Host>(
 }
 
 /// The lengths of a new file of a disk of that size in which nothing was written.
-fn lengths_of_size(alloc: Global, size: u64, format: NewFormat) -> Result<Lengths, Failure> {
+fn lengths_of_size(alloc: Global, size: u64, format: NewFormat) -> Result<Lengths, Failure>
+    ensures { IfOk result (λ r. AreLengths format StoresNothing size r.required r.full) }
+{
     let NewFormat::Qcow2(settings) = format else {
         return raw_lengths(alloc, NO_PATH, size);
     };
@@ -142,7 +176,10 @@ fn length_of_grown(alloc: Global, path: &str, size: u64, settings: Settings) -> 
 }
 
 /// The lengths of a raw file of a disk of that size.
-fn raw_lengths(alloc: Global, path: &str, size: u64) -> Result<Lengths, Failure> {
+fn raw_lengths(alloc: Global, path: &str, size: u64) -> Result<Lengths, Failure>
+    ensures { IfOk result (λ r. (r.required ≡ next_multiple_of size 512)
+        × (r.full ≡ next_multiple_of size 512)) }
+{
     let length = raw_length(alloc, path, size)?;
     Ok(Lengths {
         required: length,

@@ -1,11 +1,16 @@
 // SPDX-License-Identifier: MIT
 //! An image's disk, written to a new qcow2 file.
-ghost use Rattle.std.specs.Prelude.{◌≡◌, ℕ, [], OnOk, OnErr, IfOk, IfSome};
-ghost use Rattle.imago_qcow2_new.specs.Layout.{IsLayoutOf, file_length};
+ghost use Rattle.std.specs.Prelude.{◌≡◌, ℕ, [], true, false, OnOk, OnErr, IfOk, IfSome, IsTrue};
+ghost use Rattle.imago_access.specs.Chain.{driver};
+ghost use Rattle.imago_access.specs.Disk.{value_at};
+ghost use Rattle.imago_disk.specs.Disk.{image_of, is_told, values};
+ghost use Rattle.imago_qcow2_new.specs.Layout.{IsLayoutOf, StoresAll, file_length};
 ghost use Rattle.imago_qcow2_new.specs.Names.{HasNoNames};
+ghost use Rattle.imago_qcow2_new.specs.Space.{StoresData};
 ghost use Rattle.imago_img_files.specs.Files.{IfHeld, IsSoOnceCleared, IsUnheld};
 ghost use Rattle.imago_img_disks.specs.LeftOvers.{IsApart, IsNoSourceAt};
 ghost use Rattle.imago_img_disks.specs.NewFiles.{IsCopyBy, IsFilledWith, IsNewlyMade, IsQcow2Copy};
+ghost use Rattle.imago_img_disks.specs.NewFiles.{IsLayoutForImage};
 ghost use Rattle.imago_img_disks.specs.NewFiles.{format_by};
 
 use crate::convert::{clear, end, test_copy};
@@ -13,7 +18,10 @@ use crate::held::test_unheld;
 use crate::image::{CHUNK, FileDisk, not_read, opened, readable_size};
 use crate::progress::Progress;
 use crate::short::warn;
+use imago_any_driver::any::AnyDriver;
 use imago_copy::target::Target;
+use imago_drivers::drivers::FormatDriverInstance;
+use imago_images::file::PathStorage;
 use imago_images::opening::Opening;
 use imago_img_files::failure::{Failure, Reason, Refusal};
 use imago_img_files::host::{Host, Making};
@@ -70,7 +78,7 @@ pub fn convert_to_qcow2<H: Host, E: Write>(
     ensures converted { OnOk result (IsSoOnceCleared making.replace (H.contents host.old)
         (H.around host.old) to.now (IsApart how (H.contents host.old) (H.statuses host.old)
         (H.left_overs host.old) from.now to.now) (λ files around. IsNewlyMade
-        (IsQcow2Copy how from.now new.format) making.replace
+        (IsQcow2Copy how from.now new.format new.all) making.replace
         files (H.contents host.new) around (H.around host.new) to.now)) }
     ensures refused { OnErr result (IsSoOnceCleared making.replace (H.contents host.old)
         (H.around host.old) to.now (IsApart how (H.contents host.old) (H.statuses host.old)
@@ -98,7 +106,7 @@ fn convert_beside<H: Host, E: Write>(
     show: bool,
     warnings: &mut E,
 ) -> Result<(), Failure>
-    ensures converted { OnOk result (IsNewlyMade (IsQcow2Copy how from.now new.format)
+    ensures converted { OnOk result (IsNewlyMade (IsQcow2Copy how from.now new.format new.all)
         making.replace (H.contents host.old) (H.contents host.new) (H.around host.old)
         (H.around host.new) to.now) }
     ensures same { OnErr result (H.contents host.new ≡ H.contents host.old) }
@@ -130,8 +138,8 @@ fn planned<H: Host, E: Write>(
     replace: bool,
     warnings: &mut E,
 ) -> Result<Layout, Failure>
-    ensures layout { IfOk result (λ l. (size : ℕ) × IsLayoutOf new.format size l
-        × HasNoNames l) }
+    ensures layout { IfOk result (λ l. IfSome (H.contents host.now)
+        (λ files. IsLayoutForImage how from.now new.format new.all files l)) }
     ensures outside { OnOk result (IsNoSourceAt how (H.contents host.now) (H.statuses host.now)
         (H.around host.now) from.now to.now) }
 {
@@ -144,15 +152,22 @@ fn planned<H: Host, E: Write>(
 }
 
 /// Where everything stands in the new file of an image's disk.
-pub(crate) fn layout_for<H: Host>(
+pub(crate) fn layout_for<'a, H: Host>(
     alloc: Global,
-    disk: &FileDisk<'_, H>,
+    disk: &FileDisk<'a, H>,
     from: &str,
     to: &str,
     new: NewQcow2,
 ) -> Result<Layout, Failure>
-    ensures { IfOk result (λ l. (size : ℕ) × IsLayoutOf new.format size l
-        × HasNoNames l) }
+    ensures layout { IfOk result (IsLayoutOf new.format
+        (⟦<AnyDriver<PathStorage<'a, H>> as FormatDriverInstance>⟧.view
+        (driver (image_of disk.now))).size) }
+    ensures names { IfOk result HasNoNames }
+    ensures all { new.all ≡ true → IfOk result StoresAll }
+    ensures sparse { new.all ≡ false → IsTrue
+        (is_told ⟦<AnyDriver<PathStorage<'a, H>> as FormatDriverInstance>⟧.view disk.now)
+        → IfOk result (λ l. StoresData l.clusters (value_at
+        (values ⟦<AnyDriver<PathStorage<'a, H>> as FormatDriverInstance>⟧.view disk.now))) }
 {
     let count = if new.all { 0 } else { CHUNK };
     let mut buf = vec![in alloc; 0u8; count]?;

@@ -1,9 +1,10 @@
 -- What the first bytes of a qcow2 file say of other files, and what is so of a described image.
 -- SPDX-License-Identifier: MIT
-use Rattle.std.proofs.Common.{◌≡◌, ℕ, ◌+◌, ◌<◌, ◌≤◌, List, length, Option, None, Result, Ok, IfOk, IfSome, refl, subst, arith}
+use Rattle.std.proofs.Common.{◌≡◌, ℕ, ◌+◌, ◌<◌, ◌≤◌, Bool, List, length, Option, None, Result, Ok, IfOk, IfSome, refl, subst, arith}
 use Rattle.std.specs.Prelude.{slice_index, MatchResult, IsErr}
 use Rattle.imago_storage.specs.Bytes.{IsReadAt}
 use Rattle.imago_qcow2.specs.Numbers.{be32, be64}
+use Rattle.imago_qcow2.specs.Entry.{disk_size}
 use Rattle.imago_qcow2.specs.Header.{features_at, has_bit}
 use Rattle.imago_qcow2.proofs.NumberSteps.{range32, range64}
 use Rattle.imago_qcow2.proofs.HeaderSteps.{same32, same64, head_same}
@@ -32,6 +33,17 @@ below_read bytes cluster r len named =
     let n : be32 cluster 16 ≡ be32 bytes 16 = same32 bytes cluster begins 16 (omega arith) in
     rw (at, n) at named
 
+-- bytes that begin as others have the same size of a disk
+pub size_kept : (bytes changed : List ℕ) → ((i : ℕ) → i < 32 → slice_index changed i ≡ slice_index bytes i)
+    → disk_size changed ≡ disk_size bytes
+size_kept bytes changed same =
+    let moved : (i : ℕ) → i < 32 → slice_index changed (0 + i) ≡ slice_index bytes (0 + i) = λ i h. (let e : 0 + i ≡ i = omega arith in rw e (same i h)) in
+    range64 changed bytes 0 32 moved 24 (omega arith)
+
+-- the size in a header that was read is that of the file
+pub size_in_read : (bytes head : List ℕ) → IsReadAt bytes 0 head → 112 ≤ length head → disk_size head ≡ disk_size bytes
+size_in_read bytes head r len = same64 bytes head (head_same bytes head r len) 24 (omega arith)
+
 -- the features of a header that was read are those of the file
 pub features_read : (bytes head : List ℕ) → IsReadAt bytes 0 head → 112 ≤ length head → has_bit (features_at head 72) 2 ≡ has_bit (features_at bytes 72) 2
 unfolding features_at
@@ -42,11 +54,11 @@ features_read bytes head r len =
     rw (version, features) refl
 
 -- what is described is what the words of a command line say
-pub described_as_said : (how said : Opening) → how ≡ said → (contents : Option (List ℕ → List ℕ)) (path : List ℕ)
-    → IfSome contents (λ files. IsDescribed how path (files path))
-    → IfSome contents (λ files. IsDescribed said path (files path))
-described_as_said how said e contents path h =
-    subst (λ (w : Opening). IfSome contents (λ files. IsDescribed w path (files path))) e h
+pub described_as_said : (how said : Opening) → how ≡ said → (json : Bool) (contents : Option (List ℕ → List ℕ)) (path text : List ℕ)
+    → IfSome contents (λ files. IsDescribed how json path (files path) text)
+    → IfSome contents (λ files. IsDescribed said json path (files path) text)
+described_as_said how said e json contents path text h =
+    subst (λ (w : Opening). IfSome contents (λ files. IsDescribed w json path (files path) text)) e h
 
 -- a first cluster names no file below where its image, of the same first bytes, doesn't
 pub below_of : {D E F : Type 0} (cluster : List ℕ) (others : OtherFiles) (tells : D → Type 0) (bytes : D → List ℕ)

@@ -2,3 +2,4 @@
 pub mod FileSteps
 mod LongestLaws
 pub mod DescribedSteps
+pub mod PrintedSteps

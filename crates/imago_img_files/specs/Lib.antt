@@ -4,3 +4,4 @@ pub mod Failures
 pub mod Openings
 pub mod Extents
 pub mod Described
+pub mod Printed

@@ -6,7 +6,11 @@ ghost use Rattle.imago_vmdk.specs.Line.{extent_with};
 ghost use Rattle.imago_vmdk.specs.Reading.{reading_of};
 ghost use Rattle.imago_images.specs.declared.opening.OtherFiles.TheVariants as Others;
 ghost use Rattle.imago_images.specs.HostBytes.{HasBytes};
-ghost use Rattle.imago_img_files.specs.Described.{HasNoFile, HaveNoFiles, IsDescribed, NamesNothing};
+ghost use Rattle.std.specs.Io.KnownBytes.{Appends};
+ghost use Rattle.imago_images.specs.Layers.{size_by};
+ghost use Rattle.imago_img_files.specs.Described.{HasNoFile, HaveNoFiles, IsDescribed, IsReportOf};
+ghost use Rattle.imago_img_files.specs.Described.{NamesNothing};
+ghost use Rattle.imago_img_files.specs.Printed.{HasPrinted, IsAnyText, TellsFormat, format_text};
 
 use crate::chain::{Above, NamedBelow, Step, step_below};
 use crate::extents::{ExtentFile, Taken, find_counted, tell_fault};
@@ -14,6 +18,7 @@ use crate::failure::{Failure, Reason};
 use crate::host::Host;
 use crate::json::quoted;
 use crate::looked::descriptor_text;
+use crate::printed::print_bytes;
 use crate::qcow2_info::{Qcow2Report, print_qcow2, print_qcow2_json, report_on_qcow2};
 use crate::sizes::Size;
 use crate::sparse::sparse_type;
@@ -26,6 +31,7 @@ use imago_images::gate::{FolderGate, Named};
 use imago_images::layer::format_of;
 use imago_images::longest::refuse_longer;
 use imago_images::opening::{Opening, OtherFiles};
+use imago_images::recognised::length_of;
 use imago_storage::error::Error;
 use imago_storage::storage::Storage;
 use imago_vmdk::descriptor::{self, Descriptor};
@@ -69,8 +75,9 @@ pub fn info<H: Host, W: Write, E: Write>(
     output: &mut W,
     warnings: &mut E,
 ) -> Result<(), Failure>
-    ensures { OnOk result (IfSome (H.contents host.now)
-        (λ files. IsDescribed how path.now (files path.now))) }
+    ensures { OnOk result (HasPrinted (λ text. IfSome (H.contents host.now)
+        (λ files. IsDescribed how asked.json path.now (files path.now) text))
+        (W.contents output.old) (W.contents output.new)) }
 {
     let file = look_at(host, path)?;
     let report = report_on(host, path, &file, how)?;
@@ -88,16 +95,42 @@ fn tell_images<H: Host, W: Write, E: Write>(
     asked: Asked,
     output: &mut W,
     warnings: &mut E,
-) -> Result<(), Failure> {
+) -> Result<(), Failure>
+    ensures { OnOk result (HasPrinted (TellsFormat asked.json report.format report.size)
+        (W.contents output.old) (W.contents output.new)) }
+{
     if asked.chain {
         return tell_chain(host, first, report, asked.json, output, warnings);
     }
     warn(&report, warnings);
-    tell(host, &first.path, &report, asked.json, output).map_err(Failure::Output)?;
-    if asked.json {
-        writeln!(output).map_err(Failure::Output)?;
+    tell(host.alloc(), &first.path, &report, asked.json, output)?;
+    let end: &[u8] = if asked.json { b"\n" } else { b"" };
+    print_bytes(end, output)
+}
+
+/// What is printed before the first image of a chain, between two of them, and behind the last one.
+#[derive(Clone, Copy)]
+struct Frame {
+    start: &'static [u8],
+    between: &'static [u8],
+    end: &'static [u8],
+}
+
+/// What stands around the images of a chain that are told as lines, or as JSON.
+fn frame_of(json: bool) -> Frame {
+    if json {
+        Frame {
+            start: b"[\n",
+            between: b",\n",
+            end: b"\n]\n",
+        }
+    } else {
+        Frame {
+            start: b"",
+            between: b"\n",
+            end: b"",
+        }
     }
-    Ok(())
 }
 
 /// Tells what each image of a chain is: of the first one, that.
@@ -108,46 +141,105 @@ fn tell_chain<H: Host, W: Write, E: Write>(
     json: bool,
     output: &mut W,
     warnings: &mut E,
-) -> Result<(), Failure> {
+) -> Result<(), Failure>
+    ensures { OnOk result (HasPrinted (TellsFormat json report.format report.size)
+        (W.contents output.old) (W.contents output.new)) }
+{
     let image = String::from_str(host.alloc(), &first.path)?;
     let mut above = Above::new(host.alloc());
-    let mut step = first;
-    let mut known = Some(report);
-    let (mut start, between, end) = if json {
-        ("[\n", ",\n", "\n]\n")
-    } else {
-        ("", "\n", "")
-    };
-    for _depth in 0..LONGEST_CHAIN {
-        let report = report_on_step(host, &image, &step, &mut above, known.take())?;
-        warn(&report, warnings);
-        write!(output, "{start}").map_err(Failure::Output)?;
-        tell(host, &step.path, &report, json, output).map_err(Failure::Output)?;
-        let Some(said) = report.named_below() else {
-            return write!(output, "{end}").map_err(Failure::Output);
-        };
-        let below = step_below(host, &step.path, step.how, said);
-        step = Failure::or_opened(host.alloc(), &image, below)?;
-        start = between;
-    }
-    let refused = above.too_many_below(host.alloc(), &step.path);
-    Failure::or_opened(host.alloc(), &image, refused)
+    enter(host, &image, &first, &mut above)?;
+    warn(&report, warnings);
+    let frame = frame_of(json);
+    print_bytes(frame.start, output)?;
+    tell(host.alloc(), &first.path, &report, json, output)?;
+    tell_below(
+        host, &image, first, report, &mut above, json, output, warnings,
+    )?;
+    print_bytes(frame.end, output)
 }
 
-/// Looks at the next image of the chain that begins at the path `image`, unless it is known what it
-/// is, and refuses one that is above itself.
+/// Tells what each image is that lies below the first one of the chain, of which that was told.
+fn tell_below<H: Host, W: Write, E: Write>(
+    host: &H,
+    image: &str,
+    first: Step<PathStorage<'_, H>>,
+    report: Report,
+    above: &mut Above,
+    json: bool,
+    output: &mut W,
+    warnings: &mut E,
+) -> Result<(), Failure>
+    ensures { OnOk result (HasPrinted IsAnyText (W.contents output.old) (W.contents output.new)) }
+{
+    let mut step = first;
+    let mut report = report;
+    for _depth in 1..LONGEST_CHAIN {
+        let Some(said) = report.named_below() else {
+            return Ok(());
+        };
+        let below = step_below(host, &step.path, step.how, said);
+        step = Failure::or_opened(host.alloc(), image, below)?;
+        report = report_on_step(host, image, &step, above)?;
+        tell_next(host.alloc(), &step.path, &report, json, output, warnings)?;
+    }
+    refuse_below_last(host, image, &step, &report, above)
+}
+
+/// Refuses an image below the last one that a chain may have.
+fn refuse_below_last<H: Host>(
+    host: &H,
+    image: &str,
+    last: &Step<PathStorage<'_, H>>,
+    report: &Report,
+    above: &Above,
+) -> Result<(), Failure> {
+    let Some(said) = report.named_below() else {
+        return Ok(());
+    };
+    let below = step_below(host, &last.path, last.how, said);
+    let below = Failure::or_opened(host.alloc(), image, below)?;
+    let refused = above.too_many_below(host.alloc(), &below.path);
+    Failure::or_opened(host.alloc(), image, refused)
+}
+
+/// Tells what an image is that isn't the first one of its chain.
+fn tell_next<W: Write, E: Write>(
+    alloc: Global,
+    path: &str,
+    report: &Report,
+    json: bool,
+    output: &mut W,
+    warnings: &mut E,
+) -> Result<(), Failure>
+    ensures { OnOk result (HasPrinted IsAnyText (W.contents output.old) (W.contents output.new)) }
+{
+    warn(report, warnings);
+    print_bytes(frame_of(json).between, output)?;
+    tell(alloc, path, report, json, output)?;
+    Ok(())
+}
+
+/// Comes to an image of the chain that begins at the path `image`, and refuses one that is above
+/// itself.
+fn enter<H: Host>(
+    host: &H,
+    image: &str,
+    step: &Step<PathStorage<'_, H>>,
+    above: &mut Above,
+) -> Result<(), Failure> {
+    let entered = above.enter(host.alloc(), &step.path, &step.file);
+    Failure::or_opened(host.alloc(), image, entered)
+}
+
+/// Looks at the next image of the chain that begins at the path `image`, and refuses one that is
+/// above itself.
 fn report_on_step<H: Host>(
     host: &H,
     image: &str,
     step: &Step<PathStorage<'_, H>>,
     above: &mut Above,
-    known: Option<Report>,
 ) -> Result<Report, Failure> {
-    let entered = above.enter(host.alloc(), &step.path, &step.file);
-    Failure::or_opened(host.alloc(), image, entered)?;
-    if let Some(report) = known {
-        return Ok(report);
-    }
+    enter(host, image, step, above)?;
     let reported = report_on(host, &step.path, &step.file, step.how);
     Failure::or_needed(host.alloc(), image, reported)
 }
@@ -171,7 +263,7 @@ fn report_on<'a, H: Host>(
 ) -> Result<Report, Failure>
     ensures { (bytes : List ℕ) → HasBytes ⟦<PathStorage<'a, H> as Storage>⟧.features
         ⟦<PathStorage<'a, H> as Storage>⟧.bytes bytes file.now
-        → OnOk result (IsDescribed how path.now bytes) }
+        → IfOk result (λ r. IsReportOf how path.now bytes r.format r.size) }
 {
     refuse_another(host.alloc(), path, file, how.format, how.other_files)?;
     let format = format_of(host.alloc(), path, file, how.format)?;
@@ -188,19 +280,26 @@ fn report_as<'a, H: Host>(
     format: ImageFormat,
     how: Opening,
 ) -> Result<Report, Failure>
-    ensures { (bytes : List ℕ) → HasBytes ⟦<PathStorage<'a, H> as Storage>⟧.features
+    ensures format { IfOk result (λ r. r.format ≡ format) }
+    ensures size { (bytes : List ℕ) → HasBytes ⟦<PathStorage<'a, H> as Storage>⟧.features
+        ⟦<PathStorage<'a, H> as Storage>⟧.bytes bytes file.now
+        → IfOk result (λ r. r.size ≡ size_by how.accepted format bytes) }
+    ensures alone { (bytes : List ℕ) → HasBytes ⟦<PathStorage<'a, H> as Storage>⟧.features
         ⟦<PathStorage<'a, H> as Storage>⟧.bytes bytes file.now
         → OnOk result (how.other_files ≡ Others.None → NamesNothing how.accepted bytes format) }
 {
     let on_disk = host.size_on_disk(path);
     match format {
-        ImageFormat::Raw => Ok(Report {
-            format,
-            size: file.file().status().length,
-            on_disk,
-            vmdk: None,
-            qcow2: None,
-        }),
+        ImageFormat::Raw => {
+            let size = length_of(host.alloc(), path, file)?;
+            Ok(Report {
+                format,
+                size,
+                on_disk,
+                vmdk: None,
+                qcow2: None,
+            })
+        }
         ImageFormat::Vmdk => {
             let (described, settings) = describe(host, path, file, how)?;
             refuse_files(host.alloc(), path, &described.extents, how.other_files)?;
@@ -352,27 +451,117 @@ fn warn<E: Write>(report: &Report, warnings: &mut E) {
     }
 }
 
+/// What is printed of an image besides its format and its size.
+#[derive(Drop)]
+struct Besides {
+    /// The path, as it is printed.
+    name: String,
+    /// The size in a unit.
+    unit: String,
+    /// What comes behind the format and the size.
+    rest: Vec<u8>,
+}
+
+/// What is printed of an image besides its format and its size, as lines or as JSON.
+fn render(alloc: Global, path: &str, report: &Report, json: bool) -> Result<Besides, Failure> {
+    let name = if json {
+        quoted(alloc, path)?
+    } else {
+        format!(in alloc; "{path:?}")?
+    };
+    let unit = format!(in alloc; "{}", Size(report.size))?;
+    let mut rest = Vec::new(alloc);
+    // No memory is all for which a list of bytes refuses some.
+    print_rest(alloc, path, report, json, &mut rest).map_err(|_refused| Failure::Memory)?;
+    Ok(Besides { name, unit, rest })
+}
+
 /// Prints it as lines, or as a JSON object without a newline behind it.
-fn tell<H: Host, W: Write>(
-    host: &H,
+fn tell<W: Write>(
+    alloc: Global,
+    path: &str,
+    report: &Report,
+    json: bool,
+    output: &mut W,
+) -> Result<(), Failure>
+    ensures { OnOk result (HasPrinted (TellsFormat json report.now.format report.now.size)
+        (W.contents output.old) (W.contents output.new)) }
+{
+    let besides = render(alloc, path, report, json)?;
+    let (format, size) = (report.format, report.size);
+    print_all(format, size, &besides, json, output).map_err(Failure::Output)
+}
+
+/// Prints the format and the size of an image, and what is told besides.
+fn print_all<W: Write>(
+    format: ImageFormat,
+    size: u64,
+    besides: &Besides,
+    json: bool,
+    output: &mut W,
+) -> io::Result<()>
+    ensures { OnOk result (HasPrinted (TellsFormat json format size)
+        (W.contents output.old) (W.contents output.new)) }
+{
+    print_name(&besides.name, json, output)?;
+    print_format(format, size, &besides.unit, json, output)?;
+    output.write_all(&besides.rest)
+}
+
+/// Prints what comes before the format of an image: its path.
+fn print_name<W: Write>(name: &str, json: bool, output: &mut W) -> io::Result<()>
+    ensures { OnOk result (HasPrinted IsAnyText (W.contents output.old) (W.contents output.new)) }
+{
+    let start: &[u8] = if json {
+        b"{ \"filename\": "
+    } else {
+        b"image: "
+    };
+    let end: &[u8] = if json { b"" } else { b"\n" };
+    output.write_all(start)?;
+    output.write_all(name.as_bytes())?;
+    output.write_all(end)
+}
+
+/// Prints the format of an image, and its size, in a unit too.
+fn print_format<W: Write>(
+    format: ImageFormat,
+    size: u64,
+    unit: &str,
+    json: bool,
+    output: &mut W,
+) -> io::Result<()>
+    ensures { OnOk result (Appends (W.contents output.old) (W.contents output.new)
+        (format_text json format size unit.now)) }
+{
+    let name = format.name();
+    if json {
+        write!(output, ", \"format\": \"{name}\", \"virtual-size\": {size}")
+    } else {
+        writeln!(
+            output,
+            "file format: {name}\nvirtual size: {unit} ({size} bytes)"
+        )
+    }
+}
+
+/// Prints what comes behind the size of an image.
+fn print_rest<W: Write>(
+    alloc: Global,
     path: &str,
     report: &Report,
     json: bool,
     output: &mut W,
 ) -> io::Result<()> {
     if json {
-        print_json(host, path, report, output)
+        print_members(alloc, path, report, output)
     } else {
-        print_text(path, report, output)
+        print_lines(report, output)
     }
 }
 
 /// Prints it as lines.
-fn print_text<W: Write>(path: &str, report: &Report, output: &mut W) -> io::Result<()> {
-    writeln!(output, "image: {path:?}")?;
-    writeln!(output, "file format: {}", report.format.name())?;
-    let size = report.size;
-    writeln!(output, "virtual size: {} ({size} bytes)", Size(size))?;
+fn print_lines<W: Write>(report: &Report, output: &mut W) -> io::Result<()> {
     match report.on_disk {
         Some(taken) => writeln!(output, "disk size: {}", Size(taken))?,
         None => writeln!(output, "disk size: unavailable")?,
@@ -386,26 +575,22 @@ fn print_text<W: Write>(path: &str, report: &Report, output: &mut W) -> io::Resu
     Ok(())
 }
 
-/// Prints it as a JSON object.
-fn print_json<H: Host, W: Write>(
-    host: &H,
+/// Prints it as the rest of a JSON object.
+fn print_members<W: Write>(
+    alloc: Global,
     path: &str,
     report: &Report,
     output: &mut W,
 ) -> io::Result<()> {
-    let name = quoted(host.alloc(), path)?;
-    let (format, size) = (report.format.name(), report.size);
-    write!(output, "{{ \"filename\": {name}, \"format\": \"{format}\"")?;
-    write!(output, ", \"virtual-size\": {size}")?;
     if let Some(taken) = report.on_disk {
         write!(output, ", \"actual-size\": {taken}")?;
     }
     if let Some(found) = &report.qcow2 {
-        print_qcow2_json(host.alloc(), found, output)?;
+        print_qcow2_json(alloc, found, output)?;
         return write!(output, " }}");
     }
     match &report.vmdk {
-        Some(found) => print_vmdk_json(host.alloc(), path, found, output)?,
+        Some(found) => print_vmdk_json(alloc, path, found, output)?,
         None => write!(output, ", \"extents\": []")?,
     }
     write!(output, " }}")

@@ -17,6 +17,7 @@ pub mod json;
 pub mod looked;
 mod luks;
 pub mod opening;
+pub mod printed;
 pub mod qcow2_info;
 mod sizes;
 mod snapshots;

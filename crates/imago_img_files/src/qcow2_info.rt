@@ -5,6 +5,7 @@
 ghost use Rattle.std.specs.Prelude.{◌≡◌, ℕ, ◌<◌, ◌≤◌, List, None, false, IfOk, OnOk, IsTrue};
 ghost use Rattle.std.specs.Prelude.{length, slice_index};
 ghost use Rattle.imago_storage.specs.Bytes.{IsReadAt};
+ghost use Rattle.imago_qcow2.specs.Entry.{disk_size};
 ghost use Rattle.imago_qcow2.specs.Header.{features_at, has_bit};
 ghost use Rattle.imago_qcow2.specs.Qcow2Image.{storage_in};
 ghost use Rattle.imago_images.specs.declared.opening.OtherFiles.TheVariants as Others;
@@ -171,32 +172,43 @@ pub fn put(bytes: &mut [u8], at: usize, source: &[u8])
 /// Where the header says where the L1 table begins.
 const L1_START: usize = 40;
 
+/// Takes what isn't supported out of the first bytes of a file of that length, if it is the first
+/// for which the header is refused, and gives the length with which the rest is read.
+fn take_out(bytes: &mut [u8; HEAD_LENGTH], length: u64, unsupported: &mut Unsupported) -> u64
+    ensures first { (i : ℕ) → i < 32 → slice_index bytes.new i ≡ slice_index bytes.old i }
+{
+    match header::read(&*bytes, length) {
+        Err(HeaderFault::Encryption) => {
+            unsupported.encryption = Some(number32(&*bytes, 32));
+            put(&mut *bytes, 32, &[0; 4]);
+            length
+        }
+        Err(HeaderFault::Features(features)) => {
+            unsupported.features = features;
+            let rest = number64(&*bytes, 72) & !features;
+            put(&mut *bytes, 72, &rest.to_be_bytes());
+            length
+        }
+        Err(HeaderFault::TableBehindEnd) => {
+            // No L1 table is read here, so the header is told as of a file that holds it.
+            unsupported.cut_l1 = true;
+            put(&mut *bytes, L1_START, &[0; 8]);
+            u64::MAX
+        }
+        _ => length,
+    }
+}
+
 /// What the first bytes of a file of that length say. Encryption, features that aren't supported and
 /// the beginning of an L1 table that passes the file's end are taken out of them; an L1 table that
 /// is too long stays.
-fn head_of(mut bytes: [u8; HEAD_LENGTH], file: u64) -> Result<Head, HeaderFault> {
+fn head_of(mut bytes: [u8; HEAD_LENGTH], file: u64) -> Result<Head, HeaderFault>
+    ensures { IfOk result (λ head. head.header.size ≡ disk_size bytes) }
+{
     let mut unsupported = Unsupported::NONE;
-    let mut length = file;
-    for _step in 0..3u32 {
-        match header::read(&bytes, length) {
-            Err(HeaderFault::Encryption) => {
-                unsupported.encryption = Some(number32(&bytes, 32));
-                put(&mut bytes, 32, &[0; 4]);
-            }
-            Err(HeaderFault::Features(features)) => {
-                unsupported.features = features;
-                let rest = number64(&bytes, 72) & !features;
-                put(&mut bytes, 72, &rest.to_be_bytes());
-            }
-            Err(HeaderFault::TableBehindEnd) => {
-                // No L1 table is read here, so the header is told as of a file that holds it.
-                unsupported.cut_l1 = true;
-                put(&mut bytes, L1_START, &[0; 8]);
-                length = u64::MAX;
-            }
-            _ => {}
-        }
-    }
+    let length = take_out(&mut bytes, file, &mut unsupported);
+    let length = take_out(&mut bytes, length, &mut unsupported);
+    let length = take_out(&mut bytes, length, &mut unsupported);
     let header = header::read(&bytes, length)?;
     let taken = l1_length(&bytes);
     if taken > LONGEST_L1 {
@@ -393,11 +405,16 @@ fn refcount_bits(head: &Head) -> u32 {
     1u32.wrapping_shl(number32(&head.bytes, 96))
 }
 
-/// The header of a file.
-fn read_head<S: Storage>(alloc: Global, path: &str, file: &S) -> Result<(Head, u64), OpenError> {
+/// The header of a file, and the file's length.
+fn read_head<S: Storage>(alloc: Global, path: &str, file: &S) -> Result<(Head, u64), OpenError>
+    ensures { (bytes : List ℕ) → HasBytes S.features S.bytes bytes file.now
+        → IfOk result (λ r. r.0.header.size ≡ disk_size bytes) }
+{
     let length = OpenError::or_image(alloc, path, file.size())?;
     let mut bytes = [0u8; HEAD_LENGTH];
-    OpenError::or_image(alloc, path, file.read(alloc, &mut bytes, 0))?;
+    if let Err(cause) = file.read(alloc, &mut bytes, 0) {
+        return Err(OpenError::of_file(alloc, path, Reason::Image(cause)));
+    }
     match head_of(bytes, length) {
         Ok(head) => Ok((head, length)),
         Err(fault) => Err(OpenError::of_file(alloc, path, Reason::Header(fault))),
@@ -498,18 +515,22 @@ pub fn report_on_qcow2<'a, H: Host>(
     file: &PathStorage<'a, H>,
     others: OtherFiles,
 ) -> Result<Qcow2Report, Failure>
-    ensures { (bytes : List ℕ) → HasBytes ⟦<PathStorage<'a, H> as Storage>⟧.features
+    ensures size { (bytes : List ℕ) → HasBytes ⟦<PathStorage<'a, H> as Storage>⟧.features
+        ⟦<PathStorage<'a, H> as Storage>⟧.bytes bytes file.now
+        → IfOk result (λ r. r.header.size ≡ disk_size bytes) }
+    ensures alone { (bytes : List ℕ) → HasBytes ⟦<PathStorage<'a, H> as Storage>⟧.features
         ⟦<PathStorage<'a, H> as Storage>⟧.bytes bytes file.now
         → OnOk result (others ≡ Others.None → NamesNoFile bytes) }
 {
     let alloc = host.alloc();
     let read = read_head(alloc, path, file);
     let (mut head, length) = told_by_host(alloc, path, file, read)?;
+    let header = head.header;
     let (below, data_file, places) = names_in(alloc, path, file, &head, others)?;
     let listed = listed_in(alloc, file, &mut head, places, length);
     let listed = or_untold(alloc, path, file, listed)?;
     Ok(Qcow2Report {
-        header: head.header,
+        header,
         unsupported: head.unsupported,
         refcount_bits: refcount_bits(&head),
         below,

@@ -1,17 +1,22 @@
 -- The answers to questions, from what the functions that find them say.
 -- SPDX-License-Identifier: MIT
-use Rattle.std.proofs.Common.{◌≡◌, ◌≢◌, ◌≤◌, ◌&&◌, ◌==◌, arith, inl, inr, ℕ, Bool, true, false, not, is_some, List, Option, Some, None, IfSome, refl, sym, subst, ◌∙◌}
+use Rattle.std.proofs.Common.{◌≡◌, ◌≢◌, ◌≤◌, ◌&&◌, ◌==◌, arith, inl, inr, ℕ, Bool, true, false, not, is_some, List, Option, Some, None, IfSome, refl, sym, subst, subst₂, ◌∙◌}
 use Rattle.std.proofs.lemmas.Bool.{eqb-true, eqb-false, false≢true, not-false, not-true}
 use Rattle.std.proofs.lemmas.Option.{IfSome_then}
+use Rattle.std.specs.Io.KnownBytes.{Keeps}
 use Rattle.imago_images.specs.declared.format.ImageFormat.{ImageFormat}
 use Rattle.imago_images.specs.declared.opening.Opening.{Opening}
 use Rattle.imago_img_disks.specs.Disks.{AreCompared, is_left_out}
+use Rattle.imago_img_disks.specs.Rows.{TellsMap}
 use Rattle.imago_qcow2_check.specs.declared.fault.Verdict.{Verdict}
 use Rattle.imago_qcow2_check.specs.declared.fault.Verdict.TheVariants as V
 use Rattle.imago_img_parts.specs.declared.run.Outcome.{Outcome}
 use Rattle.imago_img_parts.specs.declared.run.Outcome.TheVariants.{Fine, Unlike, Checked, Vetted}
 use Rattle.imago_img_checks.specs.Checked.{IsChecked}
-use Rattle.imago_img_parts.specs.Commands.{AreToldApart, IsStatus, outcome_status}
+use Rattle.imago_img_files.proofs.PrintedSteps.{kept_printed}
+use Rattle.imago_img_parts.specs.declared.question.Question.{Question}
+use Rattle.imago_img_parts.specs.declared.question.Question.TheVariants as Q
+use Rattle.imago_img_parts.specs.Commands.{AreToldApart, IsAnswered, IsStatus, outcome_status}
 
 -- two disks have to have the same size, and haven't
 must_differ : (same_size : Bool) (m n : ℕ) → is_left_out same_size m n ≡ true
@@ -86,3 +91,22 @@ outcome_has_status (Vetted false) = inl (omega arith)
 -- a status that says little is one of these too
 pub small_status : (status most : ℕ) → status ≤ most → most ≤ 2 → IsStatus status
 small_status status most h k = inl (omega (arith, h, k))
+
+-- an answer is still there once the output is flushed
+pub still_answered : (question : Question) (contents : Option (List ℕ → List ℕ)) (had has flushed : Option (List ℕ)) (outcome : Outcome)
+    → Keeps has flushed → IsAnswered question contents had has outcome → IsAnswered question contents had flushed outcome
+still_answered (Q.Help kind) contents had has flushed outcome k h = h
+still_answered Q.Version contents had has flushed outcome k h = h
+still_answered (Q.Settings format) contents had has flushed outcome k h = h
+still_answered (Q.Info c) contents had has flushed outcome k h = (h.0, kept_printed _ had has flushed h.1 k)
+still_answered (Q.Map c) contents had has flushed outcome k h = (h.0, kept_printed _ had has flushed h.1 k)
+still_answered (Q.Check c) contents had has flushed outcome k h = h
+still_answered (Q.Vet c) contents had has flushed outcome k h = h
+still_answered (Q.Measure c) contents had has flushed outcome k h = (h.0, kept_printed _ had has flushed h.1 k)
+still_answered (Q.Compare c) contents had has flushed outcome k h = h
+
+-- what is told of an image is what the words of a command line say
+pub mapped_as_said : (how said : Opening) → how ≡ said → (json typed : Bool) → json ≡ typed → (contents : Option (List ℕ → List ℕ)) (path text : List ℕ)
+    → IfSome contents (λ files. TellsMap how json files path text) → IfSome contents (λ files. TellsMap said typed files path text)
+mapped_as_said how said e json typed j contents path text h =
+    subst₂ (λ (o : Opening) (b : Bool). IfSome contents (λ files. TellsMap o b files path text)) e j h

@@ -1,7 +1,7 @@
 -- What the commands of `imago-img` do, by the status that each gives.
 -- SPDX-License-Identifier: MIT
-use Rattle.std.specs.Prelude.{◌≡◌, ◌≤◌, ◌⊎◌, ℕ, Bool, true, false, List, Option, None, Some}
-use Rattle.std.specs.Prelude.{Decides, IfSome, option_map}
+use Rattle.std.specs.Prelude.{◌≡◌, ◌≤◌, ◌⊎◌, ◌||◌, ℕ, Bool, true, false, not, List, Option, None}
+use Rattle.std.specs.Prelude.{Some, Decides, IfSome, option_map}
 use Rattle.imago_words.specs.declared.command.Command.{Command}
 use Rattle.imago_words.specs.declared.command.Command.TheVariants as Asked
 use Rattle.imago_words.specs.declared.command.Convert.{Convert}
@@ -21,14 +21,15 @@ use Rattle.imago_img_parts.specs.declared.run.Outcome.{Outcome}
 use Rattle.imago_img_parts.specs.declared.run.Outcome.TheVariants.{Fine, Unlike, Checked, Vetted}
 use Rattle.imago_img_files.specs.Files.{Around, IfHeld, IsSoOnceCleared, IsUnheld}
 use Rattle.imago_img_disks.specs.Disks.{IsConverted, IsConvertedOver, IsPartlyConvertedOver}
-use Rattle.imago_disk.specs.Shows.{IsImage}
 use Rattle.imago_img_disks.specs.Disks.{AreAlike, AreUnlike}
 use Rattle.imago_img_disks.specs.Measures.{IsMeasured}
+use Rattle.imago_img_disks.specs.Rows.{TellsMap}
 use Rattle.imago_img_disks.specs.NewFiles.{IsNewImage, IsNewlyMade, IsQcow2Copy, format_by}
 use Rattle.imago_img_checks.specs.Checked.{IsChecked}
 use Rattle.imago_img_files.specs.Described.{IsDescribed}
 use Rattle.imago_img_disks.specs.LeftOvers.{IsApart, IsApartBelow, IsNoSourceAt, IsNoSourceAtBelow}
 use Rattle.imago_img_files.specs.Openings.{how_by, image_format}
+use Rattle.imago_img_files.specs.Printed.{HasPrinted, is_json}
 use Rattle.imago_img_disks.specs.Resized.{IsImageResized, IsRegular}
 use Rattle.imago_img_checks.specs.Vetted.{IsVetted}
 
@@ -67,24 +68,28 @@ AreToldApart how other same_size files first second true =
 AreToldApart how other same_size files first second false =
     AreUnlike how other same_size files first second
 
--- what the answer to a question says of files, where it is told what they have
-abbrev pub IsAnswered : Question → Option (List ℕ → List ℕ) → Outcome → Type 0
-IsAnswered (Q.Help kind) contents outcome = outcome ≡ Fine
-IsAnswered Q.Version contents outcome = outcome ≡ Fine
-IsAnswered (Q.Settings format) contents outcome = outcome ≡ Fine
-IsAnswered (Q.Info c) contents outcome = (outcome ≡ Fine) × IfSome contents
-    (λ files. IsDescribed (how_by c.format c.opening) c.file.now (files c.file.now))
-IsAnswered (Q.Map c) contents outcome = (outcome ≡ Fine) × IfSome contents
-    (λ files. IsImage (how_by c.format c.opening) files c.file.now)
-IsAnswered (Q.Check c) contents outcome =
+-- What the answer to a question says of files, where it is told what they have, and what it prints,
+-- where the output tells what it was given before and after.
+abbrev pub IsAnswered :
+    Question → Option (List ℕ → List ℕ) → Option (List ℕ) → Option (List ℕ) → Outcome → Type 0
+IsAnswered (Q.Help kind) contents had has outcome = outcome ≡ Fine
+IsAnswered Q.Version contents had has outcome = outcome ≡ Fine
+IsAnswered (Q.Settings format) contents had has outcome = outcome ≡ Fine
+IsAnswered (Q.Info c) contents had has outcome = (outcome ≡ Fine) × HasPrinted
+    (λ text. IfSome contents (λ files. IsDescribed (how_by c.format c.opening) (is_json c.output)
+    c.file.now (files c.file.now) text)) had has
+IsAnswered (Q.Map c) contents had has outcome = (outcome ≡ Fine) × HasPrinted
+    (λ text. IfSome contents (λ files. TellsMap (how_by c.format c.opening) (is_json c.output) files
+    c.file.now text)) had has
+IsAnswered (Q.Check c) contents had has outcome =
     (verdict : Option Verdict) × (outcome ≡ Checked verdict) × IfSome contents
     (λ files. IsChecked (how_by c.format c.opening) files c.file.now verdict)
-IsAnswered (Q.Vet c) contents outcome =
+IsAnswered (Q.Vet c) contents had has outcome =
     (safe : Bool) × (outcome ≡ Vetted safe) × IfSome contents
     (λ files. Decides safe (IsVetted (how_by c.format c.opening) c.file.now (files c.file.now)))
-IsAnswered (Q.Measure c) contents outcome =
-    (outcome ≡ Fine) × IfSome contents (IsMeasured c)
-IsAnswered (Q.Compare c) contents outcome =
+IsAnswered (Q.Measure c) contents had has outcome = (outcome ≡ Fine)
+    × HasPrinted (λ text. IfSome contents (λ files. IsMeasured c files text)) had has
+IsAnswered (Q.Compare c) contents had has outcome =
     (alike : Bool) × (outcome ≡ outcome_when alike) × IfSome contents
     (λ files. AreToldApart (how_by c.first_format c.opening)
     (option_map image_format c.second_format) c.same_size files c.first.now c.second.now alike)
@@ -103,17 +108,19 @@ untold refused (Q.Compare c) = 2
 untold refused (Q.Measure c) = 1
 
 -- the status says what was answered, or that nothing was
-abbrev pub IsConcluded : ℕ → Question → Option (List ℕ → List ℕ) → ℕ → Type 0
-IsConcluded refused question contents status =
-    ((outcome : Outcome) × (status ≡ outcome_status outcome) × IsAnswered question contents outcome)
+abbrev pub IsConcluded :
+    ℕ → Question → Option (List ℕ → List ℕ) → Option (List ℕ) → Option (List ℕ) → ℕ → Type 0
+IsConcluded refused question contents had has status =
+    ((outcome : Outcome) × (status ≡ outcome_status outcome)
+    × IsAnswered question contents had has outcome)
     ⊎ (status ≡ untold refused question)
 
 -- the same, and the files of a host are as they were
 abbrev pub IsAsked :
     ℕ → Question → Option (List ℕ → List ℕ) → Option (List ℕ → List ℕ)
-    → Option Around → Option Around → ℕ → Type 0
-IsAsked refused question old new before after status =
-    (new ≡ old) × (after ≡ before) × IsConcluded refused question old status
+    → Option Around → Option Around → Option (List ℕ) → Option (List ℕ) → ℕ → Type 0
+IsAsked refused question old new before after had has status =
+    (new ≡ old) × (after ≡ before) × IsConcluded refused question old had has status
 
 -- With status 0 a file was made for a path; else the status is 1, and the files are as they were.
 -- If a file may be replaced, the unfinished file of an earlier command to the same path may be gone
@@ -137,8 +144,8 @@ abbrev pub IsConvertedTo :
 IsConvertedTo New.Raw how c files new around after =
     IsConverted how c.force files new around after c.source.now c.target.now
 IsConvertedTo (New.Qcow2 settings) how c files new around after =
-    IsNewlyMade (IsQcow2Copy how c.source.now (format_by settings)) c.force files new around after
-    c.target.now
+    IsNewlyMade (IsQcow2Copy how c.source.now (format_by settings)
+    (settings.preallocated || not c.sparse)) c.force files new around after c.target.now
 
 -- The same, where the unfinished file of an earlier command might be removed, and what the path led
 -- to replaced, if it is none of the files of the image.
@@ -197,37 +204,37 @@ IsResizedOrNot r statuses old new before after status =
     × IsRegular statuses r.file.now)
     ⊎ ((status ≡ 1) × (new ≡ old)))
 
--- What a command did to the files of a host, and what its status says of them, where that is told.
--- The first number is the status of a refused line.
+-- What a command did to the files of a host, and what its status says of them and of what was
+-- printed, where that is told. The first number is the status of a refused line.
 abbrev pub IsPerformed :
     ℕ → Command → Option (List ℕ → FileStatus) → Option (List ℕ → FileStatus)
-    → Option (List ℕ → List ℕ) → Option (List ℕ → List ℕ) → Option Around → Option Around → ℕ
-    → Type 0
-IsPerformed refused (Asked.Convert c) statuses left_overs old new before after status =
+    → Option (List ℕ → List ℕ) → Option (List ℕ → List ℕ) → Option Around → Option Around
+    → Option (List ℕ) → Option (List ℕ) → ℕ → Type 0
+IsPerformed refused (Asked.Convert c) statuses left_overs old new before after had has status =
     IsConvertedBy (how_by c.source_format c.opening) c statuses left_overs old new before after
     status
-IsPerformed refused (Asked.Create c) statuses left_overs old new before after status =
+IsPerformed refused (Asked.Create c) statuses left_overs old new before after had has status =
     IsCreated c statuses left_overs old new before after status
-IsPerformed refused (Asked.Measure c) statuses left_overs old new before after status =
-    IsAsked refused (Q.Measure c) old new before after status
-IsPerformed refused (Asked.Resize c) statuses left_overs old new before after status =
+IsPerformed refused (Asked.Measure c) statuses left_overs old new before after had has status =
+    IsAsked refused (Q.Measure c) old new before after had has status
+IsPerformed refused (Asked.Resize c) statuses left_overs old new before after had has status =
     IsResizedOrNot c statuses old new before after status
-IsPerformed refused (Asked.Help kind) statuses left_overs old new before after status =
-    IsAsked refused (Q.Help kind) old new before after status
-IsPerformed refused Asked.Version statuses left_overs old new before after status =
-    IsAsked refused Q.Version old new before after status
-IsPerformed refused (Asked.Settings format) statuses left_overs old new before after status =
-    IsAsked refused (Q.Settings format) old new before after status
-IsPerformed refused (Asked.Info c) statuses left_overs old new before after status =
-    IsAsked refused (Q.Info c) old new before after status
-IsPerformed refused (Asked.Map c) statuses left_overs old new before after status =
-    IsAsked refused (Q.Map c) old new before after status
-IsPerformed refused (Asked.Check c) statuses left_overs old new before after status =
-    IsAsked refused (Q.Check c) old new before after status
-IsPerformed refused (Asked.Vet c) statuses left_overs old new before after status =
-    IsAsked refused (Q.Vet c) old new before after status
-IsPerformed refused (Asked.Compare c) statuses left_overs old new before after status =
-    IsAsked refused (Q.Compare c) old new before after status
+IsPerformed refused (Asked.Help kind) statuses left_overs old new before after had has status =
+    IsAsked refused (Q.Help kind) old new before after had has status
+IsPerformed refused Asked.Version statuses left_overs old new before after had has status =
+    IsAsked refused Q.Version old new before after had has status
+IsPerformed refused (Asked.Settings format) statuses left_overs old new before after had has status =
+    IsAsked refused (Q.Settings format) old new before after had has status
+IsPerformed refused (Asked.Info c) statuses left_overs old new before after had has status =
+    IsAsked refused (Q.Info c) old new before after had has status
+IsPerformed refused (Asked.Map c) statuses left_overs old new before after had has status =
+    IsAsked refused (Q.Map c) old new before after had has status
+IsPerformed refused (Asked.Check c) statuses left_overs old new before after had has status =
+    IsAsked refused (Q.Check c) old new before after had has status
+IsPerformed refused (Asked.Vet c) statuses left_overs old new before after had has status =
+    IsAsked refused (Q.Vet c) old new before after had has status
+IsPerformed refused (Asked.Compare c) statuses left_overs old new before after had has status =
+    IsAsked refused (Q.Compare c) old new before after had has status
 
 -- the status of a refused line: 2 for `compare`, and else 1
 abbrev pub refused_status : List (List ℕ) → ℕ
@@ -237,9 +244,10 @@ refused_status words = status_for (kind_typed words)
 -- or it was refused, which changes nothing.
 abbrev pub IsRun :
     List (List ℕ) → Option (List ℕ → FileStatus) → Option (List ℕ → FileStatus)
-    → Option (List ℕ → List ℕ) → Option (List ℕ → List ℕ) → Option Around → Option Around → ℕ
-    → Type 0
-IsRun words statuses left_overs old new before after status =
+    → Option (List ℕ → List ℕ) → Option (List ℕ → List ℕ) → Option Around → Option Around
+    → Option (List ℕ) → Option (List ℕ) → ℕ → Type 0
+IsRun words statuses left_overs old new before after had has status =
     ((command : Command) × (line_is_meant words ≡ true) × Asks words command
-    × IsPerformed (refused_status words) command statuses left_overs old new before after status)
+    × IsPerformed (refused_status words) command statuses left_overs old new before after had has
+    status)
     ⊎ ((status ≡ refused_status words) × (new ≡ old) × (after ≡ before))

@@ -1,6 +1,6 @@
 // SPDX-License-Identifier: MIT
 //! The program, over any host.
-ghost use Rattle.std.specs.Prelude.{◌≡◌, ◌≤◌, ◌&&◌, OnOk, OnErr, IfOk, IfSome, is_some, map};
+ghost use Rattle.std.specs.Prelude.{◌≡◌, ◌≤◌, ◌&&◌, ◌||◌, OnOk, OnErr, IfOk, IfSome, is_some, map};
 ghost use Rattle.std.specs.Prelude.{Decides, not, option_map, Bool, Option};
 ghost use Rattle.std.specs.Prelude.{string_bytes};
 ghost use Rattle.imago_words.specs.declared.command.Command.{Command};
@@ -16,11 +16,12 @@ ghost use Rattle.imago_img_parts.specs.Commands.{outcome_status, outcome_when, r
 ghost use Rattle.imago_img_parts.specs.Commands.{check_status, untold, vet_status};
 ghost use Rattle.imago_img_checks.specs.Vetted.{IsVetted};
 ghost use Rattle.imago_img_files.specs.Described.{IsDescribed};
-ghost use Rattle.imago_disk.specs.Shows.{IsImage};
 ghost use Rattle.imago_img_disks.specs.Disks.{is_left_out};
 ghost use Rattle.imago_img_disks.specs.Measures.{IsMeasured};
+ghost use Rattle.imago_img_disks.specs.Rows.{TellsMap};
 ghost use Rattle.imago_img_disks.specs.NewFiles.{format_by};
 ghost use Rattle.imago_img_files.specs.Openings.{how_by, image_format};
+ghost use Rattle.imago_img_files.specs.Printed.{HasPrinted, is_json as told_as_json};
 ghost use Rattle.imago_img_parts.specs.Reaches.{reach_by};
 
 use crate::commands::{Comparison, compare_images, convert_image, overwrite};
@@ -41,15 +42,16 @@ use imago_img_files::guarded::GuardedHost;
 use imago_img_files::host::{Files, Host, Making};
 use imago_img_files::info::{Asked, info};
 use imago_img_files::opening::{how_to_open, said_format};
+use imago_img_files::printed::is_json;
 use imago_qcow2_check::fault::Verdict;
 use imago_words::command::{
-    Check, Command, Compare, Convert, Create, Info, Map, Measure, Output, Resize, Vet,
+    Check, Command, Compare, Convert, Create, Info, Map, Measure, Resize, Vet,
 };
 use imago_words::help::{Help, SettingsHelp, VERSION};
 use imago_words::kind::Kind;
 use imago_words::refusal::Refusal;
 use imago_words::settings::{NewFormat, Settings};
-use std::io::{self, BufWriter, Write};
+use std::io::{self, Write};
 
 /// The exit status where the format of a file has nothing to check.
 const NOTHING_TO_CHECK: u8 = 63;
@@ -107,7 +109,8 @@ pub fn run<'w, G: GuardedHost, W: Write, E: Write>(
     ensures status { IsStatus result }
     ensures done { IsRun (map string_bytes words.entry.now) (G.statuses host.old.host)
         (G.left_overs host.old.host) (G.contents host.old.host)
-        (G.contents host.new.host) (G.around host.old.host) (G.around host.new.host) result }
+        (G.contents host.new.host) (G.around host.old.host) (G.around host.new.host)
+        (W.contents output.old) (W.contents output.new) result }
 {
     match Command::read(host.alloc(), words) {
         Ok(command) => {
@@ -168,7 +171,8 @@ pub fn perform<H: Host, W: Write, E: Write>(
     ensures status { refused ≤ 2 → IsStatus result }
     ensures performed { IsPerformed refused command.entry (H.statuses host.old)
         (H.left_overs host.old) (H.contents host.old)
-        (H.contents host.new) (H.around host.old) (H.around host.new) result }
+        (H.contents host.new) (H.around host.old) (H.around host.new)
+        (W.contents output.old) (W.contents output.new) result }
 {
     match command {
         Command::Convert(asked) => convert(host, asked, errors),
@@ -282,7 +286,8 @@ fn convert_newly<H: Host, E: Write>(
 
 /// How a qcow2 file is made of an image, where zeroes are left out or are stored too.
 fn qcow2_of(settings: Settings, sparse: bool) -> NewQcow2
-    ensures { result.format ≡ format_by settings }
+    ensures format { result.format ≡ format_by settings }
+    ensures all { result.all ≡ (settings.preallocated || not sparse) }
 {
     NewQcow2 {
         format: new_format(settings),
@@ -351,9 +356,10 @@ fn ask<H: Host, W: Write, E: Write>(
     errors: &mut E,
 ) -> u8
     ensures status { refused ≤ 2 → IsStatus result }
-    ensures concluded { IsConcluded refused question.entry (H.contents host.now) result }
+    ensures concluded { IsConcluded refused question.entry (H.contents host.now)
+        (W.contents output.old) (W.contents output.new) result }
 {
-    match buffered(host, question, output, errors) {
+    match flushed(host, question, output, errors) {
         Ok(outcome) => outcome.status(),
         Err(failure) => tell(failure, errors, untold(refused, question)),
     }
@@ -374,19 +380,20 @@ fn untold(refused: u8, question: Question<'_>) -> u8
 
 /// Answers a question, and writes out what it printed, also where it was refused in the
 /// middle.
-fn buffered<H: Host, W: Write, E: Write>(
+fn flushed<H: Host, W: Write, E: Write>(
     host: &H,
     question: Question<'_>,
     output: &mut W,
     errors: &mut E,
 ) -> Result<Outcome, Failure>
-    ensures { IfOk result
-        (λ outcome. IsAnswered question.entry (H.contents host.now) outcome) }
+    ensures { IfOk result (λ outcome. IsAnswered question.entry (H.contents host.now)
+        (W.contents output.old) (W.contents output.new) outcome) }
 {
-    let mut output = BufWriter::new(host.alloc(), &mut *output).map_err(Failure::Output)?;
-    let outcome = answer(host, question, &mut output, errors);
-    output.flush().map_err(Failure::Output)?;
-    outcome
+    let outcome = answer(host, question, output, errors);
+    match output.flush() {
+        Ok(()) => outcome,
+        Err(cause) => Err(Failure::Output(cause)),
+    }
 }
 
 /// Answers a question.
@@ -396,8 +403,8 @@ fn answer<H: Host, W: Write, E: Write>(
     output: &mut W,
     errors: &mut E,
 ) -> Result<Outcome, Failure>
-    ensures { IfOk result
-        (λ outcome. IsAnswered question.entry (H.contents host.now) outcome) }
+    ensures { IfOk result (λ outcome. IsAnswered question.entry (H.contents host.now)
+        (W.contents output.old) (W.contents output.new) outcome) }
 {
     match question {
         Question::Help(kind) => printed(write!(output, "{}", Help(kind))),
@@ -419,7 +426,9 @@ fn measured<H: Host, W: Write>(
     output: &mut W,
 ) -> Result<Outcome, Failure>
     ensures { IfOk result (λ outcome. (outcome ≡ Fine)
-        × IfSome (H.contents host.now) (IsMeasured asked.entry)) }
+        × HasPrinted (λ text. IfSome (H.contents host.now)
+        (λ files. IsMeasured asked.entry files text)) (W.contents output.old)
+        (W.contents output.new)) }
 {
     measure(host, asked, output)?;
     Ok(Outcome::Fine)
@@ -443,33 +452,30 @@ fn describe<H: Host, W: Write, E: Write>(
     errors: &mut E,
 ) -> Result<Outcome, Failure>
     ensures { IfOk result (λ outcome. (outcome ≡ Fine)
-        × IfSome (H.contents host.now) (λ files.
-        IsDescribed (how_by asked.entry.format asked.entry.opening) asked.entry.file.now
-        (files asked.entry.file.now))) }
+        × HasPrinted (λ text. IfSome (H.contents host.now) (λ files.
+        IsDescribed (how_by asked.entry.format asked.entry.opening)
+        (told_as_json asked.entry.output) asked.entry.file.now (files asked.entry.file.now) text))
+        (W.contents output.old) (W.contents output.new)) }
 {
     let how = how_to_open(asked.format, asked.opening);
-    info(
-        host,
-        asked.file,
-        how,
-        Asked {
-            json: asked.output == Output::Json,
-            chain: asked.backing_chain,
-        },
-        output,
-        errors,
-    )?;
+    let what = Asked {
+        json: is_json(asked.output),
+        chain: asked.backing_chain,
+    };
+    info(host, asked.file, how, what, output, errors)?;
     Ok(Outcome::Fine)
 }
 
 /// Tells where the bytes of an image's disk stand.
 fn list<H: Host, W: Write>(host: &H, asked: Map<'_>, output: &mut W) -> Result<Outcome, Failure>
     ensures { IfOk result (λ outcome. (outcome ≡ Fine)
-        × IfSome (H.contents host.now) (λ files.
-        IsImage (how_by asked.entry.format asked.entry.opening) files asked.entry.file.now)) }
+        × HasPrinted (λ text. IfSome (H.contents host.now) (λ files.
+        TellsMap (how_by asked.entry.format asked.entry.opening)
+        (told_as_json asked.entry.output) files asked.entry.file.now text))
+        (W.contents output.old) (W.contents output.new)) }
 {
     let how = how_to_open(asked.format, asked.opening);
-    map_image(host, asked.file, how, asked.output == Output::Json, output)?;
+    map_image(host, asked.file, how, is_json(asked.output), output)?;
     Ok(Outcome::Fine)
 }
 
@@ -497,7 +503,7 @@ fn look_for_faults<H: Host, W: Write, E: Write>(
         verdict)) }
 {
     let how = how_to_open(asked.format, asked.opening);
-    let json = asked.output == Output::Json;
+    let json = is_json(asked.output);
     let verdict = check(host, asked.file, how, json, output, errors)?;
     Ok(Outcome::Checked(verdict))
 }
@@ -514,7 +520,7 @@ fn look_at_stranger<H: Host, W: Write>(
         (files asked.entry.file.now)))) }
 {
     let how = how_to_open(asked.format, asked.opening);
-    let safe = vet(host, asked.file, how, asked.output == Output::Json, output)?;
+    let safe = vet(host, asked.file, how, is_json(asked.output), output)?;
     Ok(Outcome::Vetted(safe))
 }
 

@@ -38,9 +38,9 @@ returns-in-Ok-clause-converted g c =
     (file_length layout) c.file_length.ensures c.in-Ok.ensures.made_for in
     let created = c.in-Ok.ensures in
     newly_made (IsCopyBy how c.args.from.now layout)
-    (IsQcow2Copy how c.args.from.now c.args.new.format)
-    (contents c.args.host.now) (copy_in how c.args.from.now c.args.new.format
-    layout c.in_ok-layout.ensures.layout (contents c.args.host.now)) c.end.result c.args.making.replace (contents c.end.new.host)
+    (IsQcow2Copy how c.args.from.now c.args.new.format c.args.new.all)
+    (contents c.args.host.now) (copy_in how c.args.from.now c.args.new.format c.args.new.all
+    layout (contents c.args.host.now) c.in_ok-layout.ensures.layout) c.end.result c.args.making.replace (contents c.end.new.host)
     (around c.args.host.now) (around c.end.new.host) c.args.to.now
     (made_new (IsCopyBy how c.args.from.now layout)
     (contents c.args.host.now) (contents c.create.new.self) c.args.to.now (file_length layout)

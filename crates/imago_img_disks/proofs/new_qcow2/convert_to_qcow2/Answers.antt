@@ -19,7 +19,7 @@ returns-clause-converted g c =
     (IsApart how (contents host) (g.H.Files.statuses host) (g.H.Host.left_overs host) c.args.from.now c.args.to.now)
     c.convert_beside.result
     c.args.making.replace
-    (λ files left. IsNewlyMade (IsQcow2Copy how c.args.from.now c.args.new.format)
+    (λ files left. IsNewlyMade (IsQcow2Copy how c.args.from.now c.args.new.format c.args.new.all)
     c.args.making.replace files (contents c.convert_beside.new.host) left (around c.convert_beside.new.host)
     c.args.to.now)
     (contents c.clear.new.host) (around c.clear.new.host) c.clear.ensures.cleared c.convert_beside.ensures.converted

@@ -19,5 +19,5 @@ returns-in-Qcow2-clause-converted g c =
     converted_qcow2 c.args.how c.args.asked (g.H.Files.statuses c.args.host.now) (g.H.Host.left_overs c.args.host.now)
     (contents c.args.host.now) (contents c.convert_to_qcow2.new.host)
     (around c.args.host.now) (around c.convert_to_qcow2.new.host) c.convert_to_qcow2.result c.in-Qcow2.settings
-    c.qcow2_of-new.result.format c.qcow2_of-new.ensures c.in-Qcow2.is c.convert_to_qcow2.ensures.converted
+    c.qcow2_of-new.result c.qcow2_of-new.ensures.format c.qcow2_of-new.ensures.all c.in-Qcow2.is c.convert_to_qcow2.ensures.converted
     c.convert_to_qcow2.ensures.unheld c.convert_to_qcow2.ensures.outside
