@@ -9,6 +9,4 @@
 pub mod laws;
 pub mod probe;
 pub mod signature;
-#[cfg(test)]
-mod tests;
 mod text;

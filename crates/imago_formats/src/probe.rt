@@ -61,7 +61,7 @@ const MARKED: [Probed; 10] = [
 const WEAK: [Probed; 2] = [Probed::Cloop, Probed::Dmg];
 
 /// The text with which an image of cloop begins.
-pub(crate) const CLOOP: &[u8] =
+pub const CLOOP: &[u8] =
     b"#!/bin/sh\n#V2.0 Format\nmodprobe cloop file=$0 && mount -r -t iso9660 /dev/cloop $1\n";
 
 impl Probed {

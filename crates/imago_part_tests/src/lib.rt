@@ -1,10 +1,12 @@
 // SPDX-License-Identifier: MIT
-//! The tests of imago_file, imago_words, imago_qcow2_check, imago_qcow2_new and imago_session, and
-//! nothing else.
+//! The tests of imago_file, imago_formats, imago_words, imago_qcow2_check, imago_qcow2_new and
+//! imago_session, and nothing else.
 #![tactic(auto)]
 
 #[cfg(test)]
 mod file;
+#[cfg(test)]
+mod formats;
 #[cfg(test)]
 mod qcow2_check;
 #[cfg(test)]

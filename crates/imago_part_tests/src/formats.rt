@@ -2,7 +2,7 @@
 //! Files, and which format `qemu-img info` of version 7.2 opens each as.
 //!
 //! A file with the marks of two formats it opens as one of them; which one isn't told here.
-use crate::probe::{CLOOP, Probed, qemu_takes_for};
+use imago_formats::probe::{CLOOP, Probed, qemu_takes_for};
 use std::process::Abort;
 
 /// The longest file that is tried, in bytes.
