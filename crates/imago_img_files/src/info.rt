@@ -37,7 +37,7 @@ use imago_storage::storage::Storage;
 use imago_vmdk::descriptor::{self, Descriptor};
 use imago_vmdk::line::Extent;
 use std::alloc::Global;
-use std::io::{self, Write};
+use std::io::{self, BufWriter, Write};
 
 /// What an image is.
 #[derive(Drop)]
@@ -470,10 +470,19 @@ fn render(alloc: Global, path: &str, report: &Report, json: bool) -> Result<Besi
         format!(in alloc; "{path:?}")?
     };
     let unit = format!(in alloc; "{}", Size(report.size))?;
-    let mut rest = Vec::new(alloc);
-    // No memory is all for which a list of bytes refuses some.
-    print_rest(alloc, path, report, json, &mut rest).map_err(|_refused| Failure::Memory)?;
+    let rest = rendered(alloc, path, report, json).map_err(|_refused| Failure::Memory)?;
     Ok(Besides { name, unit, rest })
+}
+
+/// What comes behind the size of an image, in memory. It is refused for want of memory alone.
+fn rendered(alloc: Global, path: &str, report: &Report, json: bool) -> io::Result<Vec<u8>> {
+    // Short pieces cost less where a buffer gathers them.
+    let mut rest = BufWriter::new(alloc, Vec::new(alloc))?;
+    print_rest(alloc, path, report, json, &mut rest)?;
+    match rest.into_inner() {
+        Ok(rest) => Ok(rest),
+        Err(refused) => Err(refused.into_error()),
+    }
 }
 
 /// Prints it as lines, or as a JSON object without a newline behind it.
