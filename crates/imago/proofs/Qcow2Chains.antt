@@ -21,7 +21,7 @@ shown_same f g h End = refl
 module _ {D St : Type 0} (view : D → View St) (bytes : D → List ℕ) (says : (d : D) → IsTrue (view d).abilities.tells_bytes → (below : ℕ → Value) (p : ℕ) → shown below ((view d).place p) ≡ shown below (qcow2_place (bytes d) p)) where
   mutual
     pub chain_says : (x : FormatAccess D) → IsTrue (tells_bytes view x) → (p : ℕ) → disk_value view x p ≡ files_value (files_of bytes x) p
-    chain_says (FormatAccess' inner below) told p =
+    chain_says (FormatAccess' below inner) told p =
         says inner (and_left (view inner).abilities.tells_bytes (tells_bytes_below view below) told) (value_below view below) p
         ∙ shown_same (value_below view below) (files_value (files_below bytes below)) (λ q. below_says below (and_right (view inner).abilities.tells_bytes (tells_bytes_below view below) told) q) (qcow2_place (bytes inner) p)
 

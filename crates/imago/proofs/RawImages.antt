@@ -37,7 +37,7 @@ memory_alone (Err e) s = record { refusals = ⊎_elim (λ m. m) (λ u. absurd (b
 module _ {D St : Type 0} (view : D → View St) (never_fails : (d : D) → (view d).abilities.is_reliable ≡ true) (leads_nowhere : (d : D) (p q : ℕ) (w : Bool) → (view d).place p ≡ Lower q w → ⊥) where
   mutual
     chain_is_reliable : (x : FormatAccess D) → is_reliable view x ≡ true
-    chain_is_reliable (FormatAccess' inner b) = both_true _ _ (never_fails inner) (below_is_reliable b)
+    chain_is_reliable (FormatAccess' b inner) = both_true _ _ (never_fails inner) (below_is_reliable b)
 
     below_is_reliable : (b : Held-FormatAccess-backing D) → is_reliable_below view b ≡ true
     below_is_reliable None' = refl

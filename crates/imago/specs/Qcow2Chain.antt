@@ -14,7 +14,7 @@ files_value (bytes ∷ below) p = shown (files_value below) (qcow2_place bytes p
 abbrev mutual
   -- the files of an image's layers, the top one first
   pub files_of : {D : Type 0} → (D → List ℕ) → FormatAccess D → List (List ℕ)
-  files_of bytes (FormatAccess' inner below) = bytes inner ∷ files_below bytes below
+  files_of bytes (FormatAccess' below inner) = bytes inner ∷ files_below bytes below
 
   pub files_below : {D : Type 0} → (D → List ℕ) → Held-FormatAccess-backing D → List (List ℕ)
   files_below bytes None' = []

@@ -12,7 +12,7 @@ use Rattle.imago_access.specs.Specials.{special_at, special_below}
 use Rattle.imago_access.specs.Target.{Target, target, followed, deeper, target_here}
 
 module _ {D St : Type 0} (view : D → View St) where
-  value_back : (inner : D) (b : Option (Box (FormatAccess D) Global)) → disk_value view (FormatAccess' inner (back-FormatAccess-backing D b)) ≡ values (lent_image view (unboxed b)).at (view inner).place
+  value_back : (inner : D) (b : Option (Box (FormatAccess D) Global)) → disk_value view (FormatAccess' (back-FormatAccess-backing D b) inner) ≡ values (lent_image view (unboxed b)).at (view inner).place
   value_back inner None = refl
   value_back inner (Some b) = refl
 
@@ -26,14 +26,14 @@ module _ {D St : Type 0} (view : D → View St) where
   pub value_lower : (x y : FormatAccess D) (p q : ℕ) (w : Bool) → backing x ≡ Some y → (view (driver x)).place p ≡ Lower q w → disk_value view x p ≡ disk_value view y q
   value_lower x y p q w h k = value_at x p (Lower q w) k ∙ ap (λ (b : Option (FormatAccess D)). (lent_image view b).at q) h
 
-  special_back : (inner : D) (b : Option (Box (FormatAccess D) Global)) → special_at view (FormatAccess' inner (back-FormatAccess-backing D b)) 0 ≡ (view inner).special
+  special_back : (inner : D) (b : Option (Box (FormatAccess D) Global)) → special_at view (FormatAccess' (back-FormatAccess-backing D b) inner) 0 ≡ (view inner).special
   special_back inner b = refl
 
   -- the top makes up what its driver does
   pub special_here : (x : FormatAccess D) → special_at view x 0 ≡ (view (driver x)).special
   special_here x = ap (λ (y : FormatAccess D). special_at view y 0) (is-FormatAccess' x) ∙ special_back (driver x) (out-FormatAccess D x).backing
 
-  one_deeper : (inner : D) (held : Held-FormatAccess-backing D) (k : ℕ) → special_at view (FormatAccess' inner held) (1 + k) ≡ special_below view held k
+  one_deeper : (inner : D) (held : Held-FormatAccess-backing D) (k : ℕ) → special_at view (FormatAccess' held inner) (1 + k) ≡ special_below view held k
   one_deeper inner held k =
       let e : nat_eq (1 + k) 0 ≡ false = ne_eqb (1 + k) 0 (λ h. absurd (omega arith)) in
       let m : 1 + k - 1 ≡ k = omega arith in
@@ -52,7 +52,7 @@ module _ {D St : Type 0} (view : D → View St) where
       ∙ ap (λ (f : ℕ → Value). f p) (one_deeper (driver x) (back-FormatAccess-backing D (out-FormatAccess D x).backing) k)
       ∙ special_unboxed (out-FormatAccess D x).backing y k p h
 
-  reliable_back : (inner : D) (b : Option (Box (FormatAccess D) Global)) → is_reliable view (FormatAccess' inner (back-FormatAccess-backing D b)) ≡ ((view inner).abilities.is_reliable && (lent_image view (unboxed b)).is_reliable)
+  reliable_back : (inner : D) (b : Option (Box (FormatAccess D) Global)) → is_reliable view (FormatAccess' (back-FormatAccess-backing D b) inner) ≡ ((view inner).abilities.is_reliable && (lent_image view (unboxed b)).is_reliable)
   reliable_back inner None = refl
   reliable_back inner (Some b) = refl
 
@@ -69,7 +69,7 @@ module _ {D St : Type 0} (view : D → View St) where
   pub reliable_lower : (x y : FormatAccess D) → backing x ≡ Some y → is_reliable view y ≡ false → is_reliable view x ≡ false
   reliable_lower x y h k = reliable_out x ∙ and_false _ _ (ap (λ (b : Option (FormatAccess D)). (lent_image view b).is_reliable) h ∙ k)
 
-  told_back : (inner : D) (b : Option (Box (FormatAccess D) Global)) → tells_bytes view (FormatAccess' inner (back-FormatAccess-backing D b)) ≡ ((view inner).abilities.tells_bytes && (lent_image view (unboxed b)).tells_bytes)
+  told_back : (inner : D) (b : Option (Box (FormatAccess D) Global)) → tells_bytes view (FormatAccess' (back-FormatAccess-backing D b) inner) ≡ ((view inner).abilities.tells_bytes && (lent_image view (unboxed b)).tells_bytes)
   told_back inner None = refl
   told_back inner (Some b) = refl
 
@@ -95,7 +95,7 @@ module _ {D St : Type 0} (view : D → View St) where
   target_of None p = target_here End
   target_of (Some x) p = target view x p
 
-  target_back : (inner : D) (b : Option (Box (FormatAccess D) Global)) (p : ℕ) → target view (FormatAccess' inner (back-FormatAccess-backing D b)) p ≡ followed (target_of (unboxed b)) ((view inner).place p)
+  target_back : (inner : D) (b : Option (Box (FormatAccess D) Global)) (p : ℕ) → target view (FormatAccess' (back-FormatAccess-backing D b) inner) p ≡ followed (target_of (unboxed b)) ((view inner).place p)
   target_back inner None p = refl
   target_back inner (Some b) p = refl
 
@@ -152,7 +152,7 @@ module _ {D St : Type 0} (view : D → View St) where
 
   -- what may take memory for a part of a range may for the whole
   pub memory_part : (x : FormatAccess D) (o n q m : ℕ) → o ≤ q → q + m ≤ o + n → may_take_memory view x q m → may_take_memory view x o n
-  memory_part (FormatAccess' inner b) o n q m h j c = ⊎_elim
+  memory_part (FormatAccess' b inner) o n q m h j c = ⊎_elim
       (λ a. inl (a.0, a.1, a.2, omega (arith, h, a.3), omega (arith, j, a.4), a.5))
       (λ r. inr (r.0, r.1, r.2, reached_wider (view inner).place o n q m r.0 r.1 h j r.3, r.4))
       c

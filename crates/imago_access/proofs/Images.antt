@@ -65,7 +65,7 @@ pub with_own_driver : {D : Type 0} (x : FormatAccess D) (d : D) → d ≡ driver
 with_own_driver {D} x d h = ap (with_driver x) h ∙ rolls-FormatAccess' record { inner = driver x; backing = (out-FormatAccess D x).backing } ∙ sym (is-FormatAccess' x)
 
 module _ {D St : Type 0} (view : D → View St) (x : FormatAccess D) (d : D) where
-  value_rolled : (b : Option (Box (FormatAccess D) Global)) → disk_value view (FormatAccess' d (back-FormatAccess-backing D b)) ≡ values (lent_image view (unboxed b)).at (view d).place
+  value_rolled : (b : Option (Box (FormatAccess D) Global)) → disk_value view (FormatAccess' (back-FormatAccess-backing D b) d) ≡ values (lent_image view (unboxed b)).at (view d).place
   value_rolled None = refl
   value_rolled (Some b) = refl
 

@@ -24,7 +24,7 @@ module _ {D St : Type 0} (view : D → View St) where
   mutual
     -- an image shows what stands where an offset leads
     pub target_shows : (x : FormatAccess D) (p : ℕ) → disk_value view x p ≡ shown (λ (z : ℕ). Byte 0) (target view x p).place
-    target_shows (FormatAccess' inner below) p = followed_shows (value_below view below) (target_below view below) (target_below_shows below) ((view inner).place p)
+    target_shows (FormatAccess' below inner) p = followed_shows (value_below view below) (target_below view below) (target_below_shows below) ((view inner).place p)
 
     target_below_shows : (b : Held-FormatAccess-backing D) (q : ℕ) → value_below view b q ≡ shown (λ (z : ℕ). Byte 0) (target_below view b q).place
     target_below_shows None' q = refl
@@ -45,7 +45,7 @@ followed_faulty leads below End own = own
 module _ {D St : Type 0} (view : D → View St) (lawful : (d : D) → IsLawful (view d)) where
   mutual
     pub target_faulty : (x : FormatAccess D) (p : ℕ) → IsFaultOf (target view x p).place
-    target_faulty (FormatAccess' inner below) p = followed_faulty (target_below view below) (target_below_faulty below) ((view inner).place p) ((lawful inner).faulty p)
+    target_faulty (FormatAccess' below inner) p = followed_faulty (target_below view below) (target_below_faulty below) ((view inner).place p) ((lawful inner).faulty p)
 
     target_below_faulty : (b : Held-FormatAccess-backing D) (q : ℕ) → IsFaultOf (target_below view b q).place
     target_below_faulty None' q = λ o e h. let z : ⊥ = cc in absurd z

@@ -19,7 +19,7 @@ HasStorage of features count align = (index : ℕ) × (index < count) × (of (fe
 abbrev mutual
   -- a storage of the top layer, or of a layer below, has that alignment
   pub has_align : {D St : Type 0} → (D → View St) → (Features → ℕ) → FormatAccess D → ℕ → Type 0
-  has_align view of (FormatAccess' inner below) align =
+  has_align view of (FormatAccess' below inner) align =
       HasStorage of (view inner).stores.features (view inner).stores.count align
       ⊎ has_align_below view of below align
 

@@ -31,8 +31,8 @@ abbrev mutual
   -- asked for and maps there.
   pub Reaches : {D St : Type 0} → Calls D St → FormatAccess D → ℕ → ℕ → FormatAccess D → ℕ → ℕ
       → Type 0
-  Reaches its (FormatAccess' inner below) o n layer q m =
-      ((layer ≡ FormatAccess' inner below) × (q ≡ o) × (m ≡ n))
+  Reaches its (FormatAccess' below inner) o n layer q m =
+      ((layer ≡ FormatAccess' below inner) × (q ≡ o) × (m ≡ n))
       ⊎ ((p : ℕ) × (c : ℕ) × (w : Bool) × Maps its inner o n (S.Indirect p w) c
       × ReachesBelow its below p c layer q m)
 

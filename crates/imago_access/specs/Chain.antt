@@ -33,7 +33,7 @@ abbrev mutual
   -- what a read of each offset of an image gives: each place of the top layer, over what the layers
   -- below it show
   pub disk_value : {D St : Type 0} → (D → View St) → FormatAccess D → ℕ → Value
-  disk_value view (FormatAccess' inner below) p = shown (value_below view below)
+  disk_value view (FormatAccess' below inner) p = shown (value_below view below)
       ((view inner).place p)
 
   pub value_below : {D St : Type 0} → (D → View St) → Held-FormatAccess-backing D → ℕ → Value
@@ -43,7 +43,7 @@ abbrev mutual
 abbrev mutual
   -- no device of any layer fails
   pub is_reliable : {D St : Type 0} → (D → View St) → FormatAccess D → Bool
-  is_reliable view (FormatAccess' inner below) = (view inner).abilities.is_reliable
+  is_reliable view (FormatAccess' below inner) = (view inner).abilities.is_reliable
       && is_reliable_below view below
 
   pub is_reliable_below : {D St : Type 0} → (D → View St) → Held-FormatAccess-backing D → Bool
@@ -53,7 +53,7 @@ abbrev mutual
 abbrev mutual
   -- each layer tells its bytes
   pub tells_bytes : {D St : Type 0} → (D → View St) → FormatAccess D → Bool
-  tells_bytes view (FormatAccess' inner below) = (view inner).abilities.tells_bytes
+  tells_bytes view (FormatAccess' below inner) = (view inner).abilities.tells_bytes
       && tells_bytes_below view below
 
   pub tells_bytes_below : {D St : Type 0} → (D → View St) → Held-FormatAccess-backing D → Bool
@@ -69,7 +69,7 @@ abbrev mutual
   -- a cause of refusal for that range at the top, or, for what is reached there, at a layer below
   pub chain_cause : {D St : Type 0} → (D → View St) → FormatAccess D → Operation → ℕ → ℕ → Error
       → Type 0
-  chain_cause view (FormatAccess' inner below) op o n e =
+  chain_cause view (FormatAccess' below inner) op o n e =
       (view inner).limits.cause op o n e
       ⊎ ((q : ℕ) × (m : ℕ) × (0 < m) × IsReached (view inner).place o n q m
       × cause_below view below op q m e)
@@ -82,7 +82,7 @@ abbrev mutual
 abbrev mutual
   -- each driver maps the whole of that range at once, and takes no memory to read it
   pub chain_no_memory : {D St : Type 0} → (D → View St) → FormatAccess D → ℕ → ℕ → Type 0
-  chain_no_memory view (FormatAccess' inner below) o n =
+  chain_no_memory view (FormatAccess' below inner) o n =
       (view inner).limits.whole Read o n × (view inner).limits.no_memory Read o n
       × ((q : ℕ) → IsReached (view inner).place o n q n → no_memory_below view below q n)
 
@@ -95,7 +95,7 @@ abbrev mutual
   -- a driver may take memory to read a part of that range: the one at the top, or, for what is
   -- reached there, one of a layer below
   pub may_take_memory : {D St : Type 0} → (D → View St) → FormatAccess D → ℕ → ℕ → Type 0
-  may_take_memory view (FormatAccess' inner below) o n =
+  may_take_memory view (FormatAccess' below inner) o n =
       ((q : ℕ) × (m : ℕ) × (0 < m) × (o ≤ q) × (q + m ≤ o + n)
       × ((view inner).limits.no_memory Read q m → ⊥))
       ⊎ ((q : ℕ) × (m : ℕ) × (0 < m) × IsReached (view inner).place o n q m

@@ -37,7 +37,7 @@ module _ {D St : Type 0} (view : D → View St) (laws : (d : D) → AreCauses (v
   -- a cause for a part of a range is one for the whole
   pub chain_part : (x : FormatAccess D) (op : Operation) (o n q m : ℕ) (e : Error) → o ≤ q
       → q + m ≤ o + n → chain_cause view x op q m e → chain_cause view x op o n e
-  chain_part (FormatAccess' inner b) op o n q m e h j c =
+  chain_part (FormatAccess' b inner) op o n q m e h j c =
       ⊎_elim (λ a. inl ((laws inner).part op o n q m e h j a))
       (λ r. inr (r.0, r.1, r.2, reached_wider (view inner).place o n q m r.0 r.1 h j r.3, r.4))
       c
@@ -45,7 +45,7 @@ module _ {D St : Type 0} (view : D → View St) (laws : (d : D) → AreCauses (v
   -- what can't be read below can't be read above, where it is reached
   lift : (inner : D) (b : Held-FormatAccess-backing D) (o n q m : ℕ) (e : Error)
       → IsReached (view inner).place o n q m → IsUnreadableIn (value_below view b) q m e
-      → IsUnreadableIn (disk_value view (FormatAccess' inner b)) o n e
+      → IsUnreadableIn (disk_value view (FormatAccess' b inner)) o n e
   lift inner b o n q m e r (p, i, s) =
       let x = r (p - q) (omega (arith, i.0, i.1)) in
       let t : q + (p - q) ≡ p = omega (arith, i.0) in
@@ -55,7 +55,7 @@ module _ {D St : Type 0} (view : D → View St) (laws : (d : D) → AreCauses (v
     unreadable : (op : Operation) (e : Error) → ((d : D) (o n : ℕ) → (view d).limits.cause op o n e
         → IsUnreadableIn (own_values (view d).place) o n e) → (x : FormatAccess D) (o n : ℕ)
         → chain_cause view x op o n e → IsUnreadableIn (disk_value view x) o n e
-    unreadable op e own (FormatAccess' inner b) o n c =
+    unreadable op e own (FormatAccess' b inner) o n c =
         ⊎_elim (λ a. let r = own inner o n a in
         (r.0, r.1, own_shown (value_below view b) ((view inner).place r.0) e r.2))
         (λ r. lift inner b o n r.0 r.1 e r.3 (unreadable_below op e own b r.0 r.1 r.4)) c
@@ -71,7 +71,7 @@ module _ {D St : Type 0} (view : D → View St) (laws : (d : D) → AreCauses (v
   mutual
     never : (op : Operation) (e : Error) → ((d : D) (o n : ℕ) → (view d).limits.cause op o n e → ⊥)
         → (x : FormatAccess D) (o n : ℕ) → chain_cause view x op o n e → ⊥
-    never op e own (FormatAccess' inner b) o n c = ⊎_elim (λ a. own inner o n a)
+    never op e own (FormatAccess' b inner) o n c = ⊎_elim (λ a. own inner o n a)
         (λ r. never_below op e own b r.0 r.1 r.4) c
 
     never_below : (op : Operation) (e : Error) → ((d : D) (o n : ℕ) → (view d).limits.cause op o n e

@@ -27,7 +27,7 @@ abbrev mutual
   -- n bytes of the range of an image are resolved at once: each driver on the way maps so much of
   -- what the one above it does
   pub IsResolvedLength : {D St : Type 0} → (D → View St) → FormatAccess D → ℕ → ℕ → ℕ → Type 0
-  IsResolvedLength view (FormatAccess' inner below) o most n = (k : ℕ)
+  IsResolvedLength view (FormatAccess' below inner) o most n = (k : ℕ)
       × IsOwnLength (view inner) o most k × length_below view below ((view inner).place o) k n
 
   pub length_below : {D St : Type 0} → (D → View St) → Held-FormatAccess-backing D → Place → ℕ → ℕ

@@ -9,7 +9,7 @@ use Rattle.imago_access.specs.Chain.{driver, tells_bytes}
 abbrev mutual
   -- what the driver of the layer that many layers below the top makes up at each offset
   pub special_at : {D St : Type 0} → (D → View St) → FormatAccess D → ℕ → ℕ → Value
-  special_at view (FormatAccess' inner below) depth =
+  special_at view (FormatAccess' below inner) depth =
       if nat_eq depth 0 then (view inner).special else special_below view below (depth - 1)
 
   pub special_below : {D St : Type 0} → (D → View St) → Held-FormatAccess-backing D → ℕ → ℕ → Value

@@ -31,7 +31,7 @@ followed below End = target_here End
 
 abbrev mutual
   pub target : {D St : Type 0} → (D → View St) → FormatAccess D → ℕ → Target
-  target view (FormatAccess' inner below) p = followed (target_below view below)
+  target view (FormatAccess' below inner) p = followed (target_below view below)
       ((view inner).place p)
 
   pub target_below : {D St : Type 0} → (D → View St) → Held-FormatAccess-backing D → ℕ → Target

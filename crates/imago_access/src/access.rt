@@ -20,8 +20,10 @@ use std::fmt::{self, Display, Formatter, Write};
 /// touches, and, where it makes zeroes, in those granules. All others keep where they stand, also
 /// where it is refused.
 pub struct FormatAccess<D> {
-    pub(crate) inner: D,
+    /// It lies beside what a driver begins with: a walk down a long chain waits for memory, and
+    /// reads as few lines of the processor's cache in each layer as it can.
     pub(crate) backing: Option<Box<FormatAccess<D>>>,
+    pub(crate) inner: D,
 }
 
 /// A chain of any length is let go of in a loop, which needs no stack.

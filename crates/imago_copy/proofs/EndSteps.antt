@@ -48,7 +48,7 @@ module _ {D St : Type 0} (view : D → View St) where
   leads_of None p = target_here End
   leads_of (Some x) p = target view x p
 
-  leads_back : (inner : D) (b : Option (Box (FormatAccess D) Global)) (p : ℕ) → target view (FormatAccess' inner (back-FormatAccess-backing D b)) p ≡ followed (leads_of (unboxed b)) ((view inner).place p)
+  leads_back : (inner : D) (b : Option (Box (FormatAccess D) Global)) (p : ℕ) → target view (FormatAccess' (back-FormatAccess-backing D b) inner) p ≡ followed (leads_of (unboxed b)) ((view inner).place p)
   leads_back inner None p = refl
   leads_back inner (Some b) p = refl
 

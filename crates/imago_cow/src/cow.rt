@@ -76,7 +76,7 @@ pub(crate) struct Waiting {
 /// it is of.
 #[derive(Drop)]
 pub struct Cow<S: Storage> {
-    storage: S,
+    // What a mapping needs lies together, in front: see `FormatAccess`.
     size: u64,
     block: BlockSize,
     table: Table,
@@ -84,6 +84,7 @@ pub struct Cow<S: Storage> {
     tickets: u64,
     /// How often a read of the layer below failed. It saturates.
     faults: u64,
+    storage: S,
     ghost fits: { size < 2 ^ 64 },
     ghost positive: { 0 < block.length },
     ghost exact: { IsExact size block.length (entries_of table) },

@@ -221,7 +221,7 @@ module _ {D St : Type 0} (view : D → View St) where
   storages_back :
       (inner : D) (b : Option (Box (FormatAccess D) Global)) (paths : List (List ℕ)) (rest : List (List (List ℕ)))
       → AreNamed (view inner).stores paths → BelowHas (unboxed b) rest
-      → HasStorages view (FormatAccess' inner (back-FormatAccess-backing D b)) (paths ∷ rest)
+      → HasStorages view (FormatAccess' (back-FormatAccess-backing D b) inner) (paths ∷ rest)
   storages_back inner None paths rest own below = (own, below)
   storages_back inner (Some b) paths rest own below = (own, below)
 

@@ -49,7 +49,7 @@ module _ {D : Type 0} (tables : D → ℕ) where
   below_tables (Some x) = tables_of tables x
 
   tables_back : (inner : D) (b : Option (Box (FormatAccess D) Global))
-      → tables_of tables (FormatAccess' inner (back-FormatAccess-backing D b)) ≡ tables inner ∷ below_tables (unboxed b)
+      → tables_of tables (FormatAccess' (back-FormatAccess-backing D b) inner) ≡ tables inner ∷ below_tables (unboxed b)
   tables_back inner None = refl
   tables_back inner (Some b) = refl
 

@@ -63,8 +63,8 @@ abbrev mutual
   -- the storages of each layer of an image, the top one first, have these paths as names
   pub HasStorages :
       {D St : Type 0} → (D → View St) → FormatAccess D → List (List (List ℕ)) → Type 0
-  HasStorages view (FormatAccess' inner below) [] = ⊥
-  HasStorages view (FormatAccess' inner below) (paths ∷ rest) =
+  HasStorages view (FormatAccess' below inner) [] = ⊥
+  HasStorages view (FormatAccess' below inner) (paths ∷ rest) =
       AreNamed (view inner).stores paths × HasStoragesBelow view below rest
 
   pub HasStoragesBelow :

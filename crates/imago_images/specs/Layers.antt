@@ -64,7 +64,7 @@ tables_in _ = 0
 abbrev mutual
   -- how many bytes the tables have of each layer of an image, the top one first
   pub tables_of : {D : Type 0} → (D → ℕ) → FormatAccess D → List ℕ
-  tables_of tables (FormatAccess' inner below) = tables inner ∷ tables_below tables below
+  tables_of tables (FormatAccess' below inner) = tables inner ∷ tables_below tables below
 
   pub tables_below : {D : Type 0} → (D → ℕ) → Held-FormatAccess-backing D → List ℕ
   tables_below tables None' = []

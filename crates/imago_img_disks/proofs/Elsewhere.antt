@@ -52,7 +52,7 @@ module _ {D St : Type 0} (view : D → View St) (file : ℕ × ℕ) where
   elsewhere_back :
       (s : List ℕ → FileStatus) (inner : D) (b : Option (Box (FormatAccess D) Global))
       → AreElsewhere (view inner).stores s file → IsElsewhereIn view s file (unboxed b)
-      → IsElsewhere view s file (FormatAccess' inner (back-FormatAccess-backing D b))
+      → IsElsewhere view s file (FormatAccess' (back-FormatAccess-backing D b) inner)
   elsewhere_back s inner None own below = (own, below)
   elsewhere_back s inner (Some b) own below = (own, below)
 
@@ -129,8 +129,8 @@ module _ (status_of : List ℕ → FileStatus) (file : ℕ × ℕ) where
       layers_none :
           (x : FormatAccess D) (layers : List (List (List ℕ))) → HasStorages view x layers
           → IsElsewhere view status_of file x → IsNoneOf status_of file layers
-      layers_none (FormatAccess' inner below) [] has elsewhere = tt
-      layers_none (FormatAccess' inner below) (paths ∷ rest) has elsewhere =
+      layers_none (FormatAccess' below inner) [] has elsewhere = tt
+      layers_none (FormatAccess' below inner) (paths ∷ rest) has elsewhere =
           (layer_none (view inner).stores paths has.0 elsewhere.0, below_none below rest has.1 elsewhere.1)
 
       below_none :

@@ -25,7 +25,7 @@ abbrev mutual
   -- no storage of any layer of an image has
   pub IsElsewhere :
       {D St : Type 0} → (D → View St) → (List ℕ → FileStatus) → ℕ × ℕ → FormatAccess D → Type 0
-  IsElsewhere view status_of file (FormatAccess' inner below) =
+  IsElsewhere view status_of file (FormatAccess' below inner) =
       AreElsewhere (view inner).stores status_of file × IsElsewhereBelow view status_of file below
 
   pub IsElsewhereBelow :

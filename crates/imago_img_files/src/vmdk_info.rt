@@ -43,6 +43,9 @@ pub fn settings_in(alloc: Global, text: &[u8]) -> Result<Settings, AllocError> {
         if let Some((key, value)) = setting_in(line) {
             settings.take(alloc, key, value)?;
         }
+        if settings.is_complete() {
+            break;
+        }
     }
     Ok(settings)
 }
@@ -65,6 +68,11 @@ impl Settings {
             _ => {}
         }
         Ok(())
+    }
+
+    /// Whether all is said: lines behind these say nothing more.
+    fn is_complete(&self) -> bool {
+        self.cid.is_some() && self.parent_cid.is_some() && self.create_type.is_some()
     }
 
     /// Whether nothing is said.

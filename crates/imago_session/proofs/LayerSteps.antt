@@ -103,7 +103,7 @@ module _ (law : StandAlike) (permitted : Permitted) where
   mutual
     pub layers_show : (bytes : ℕ → ℕ → List ℕ) (files : ℕ → File) → AreNumbered bytes files → (x : FormatAccess Layer) → AreLayersOf permitted files x
         → (p : ℕ) → IsNoSpecial (target view_of x p).place → target_value bytes (target view_of x p) ≡ described_value files x p
-    layers_show bytes files are (FormatAccess' inner below) h p other =
+    layers_show bytes files are (FormatAccess' below inner) h p other =
         let own : (s : ℕ) → bytes 0 s ≡ (files s).bytes = own_numbered bytes files are in
         let over : IsOver permitted inner (bytes 0 0) = subst (λ (xs : List ℕ). IsOver permitted inner xs) (sym (own 0)) h.0.1 in
         let rest : ℕ → Value = described_below (λ k. files (suc k)) below in
@@ -132,7 +132,7 @@ module _ (permitted : Permitted) where
 
   pub image_size : (files : ℕ → File) (x : FormatAccess Layer) → AreLayersOf permitted files x → (view_of (driver x)).size ≡ size_by (driver x) (files 0).bytes
   image_size files x h =
-      let here : AreLayersOf permitted files (FormatAccess' (driver x) (back-FormatAccess-backing Layer (out-FormatAccess Layer x).backing)) = subst (λ (y : FormatAccess Layer). AreLayersOf permitted files y) (is-FormatAccess' x) h in
+      let here : AreLayersOf permitted files (FormatAccess' (back-FormatAccess-backing Layer (out-FormatAccess Layer x).backing) (driver x)) = subst (λ (y : FormatAccess Layer). AreLayersOf permitted files y) (is-FormatAccess' x) h in
       layer_size (driver x) (files 0).bytes here.0.1
 
 -- where a source stands isn't made up

@@ -125,7 +125,7 @@ AreAbove permitted files (d ∷ ds) =
 abbrev mutual
   -- An image has a layer for each file, the top one first, down to one that names none below.
   pub AreLayersOf : Permitted → (ℕ → File) → FormatAccess Layer → Type 0
-  AreLayersOf permitted files (FormatAccess' inner below) =
+  AreLayersOf permitted files (FormatAccess' below inner) =
       IsLayerOf permitted inner (files 0)
       × AreBelow permitted (λ (k : ℕ). files (suc k)) inner (files 0).bytes below
 
@@ -139,7 +139,7 @@ abbrev mutual
   -- hold: each says of an offset that a byte stands there, a zero, or what the next one says. Below
   -- the last one all is zero.
   pub described_value : (ℕ → File) → FormatAccess Layer → ℕ → Value
-  described_value files (FormatAccess' inner below) p =
+  described_value files (FormatAccess' below inner) p =
       shown (described_below (λ (k : ℕ). files (suc k)) below)
       (described_by inner (λ (k : ℕ). (files k).bytes) p)
 
@@ -184,7 +184,7 @@ extent_names (Of.Qcow2 q) bytes = []
 abbrev mutual
   -- the names of the files of the extents of an image's lowest layer
   pub names_in : (ℕ → File) → FormatAccess Layer → List (List ℕ)
-  names_in files (FormatAccess' inner below) =
+  names_in files (FormatAccess' below inner) =
       names_below (λ (k : ℕ). files (suc k)) (extent_names inner (files 0).bytes) below
 
   pub names_below :
@@ -195,7 +195,7 @@ abbrev mutual
 abbrev mutual
   -- how many layers an image has
   pub layers_in : FormatAccess Layer → ℕ
-  layers_in (FormatAccess' inner below) = layers_below below + 1
+  layers_in (FormatAccess' below inner) = layers_below below + 1
 
   pub layers_below : Held-FormatAccess-backing Layer → ℕ
   layers_below None' = 0
