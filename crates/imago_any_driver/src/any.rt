@@ -175,9 +175,22 @@ impl<S: Storage> FormatDriverInstance for AnyDriver<S> {
         dispatch!(self, driver => driver.storage(index))
     }
 
+    // A long chain is walked in a loop with the mappings of its layers in it. Those of formats with
+    // tables are calls, and what these give is taken apart, so that all else stays in registers.
     #[inline(always)]
     fn get_mapping(&self, offset: u64, max_length: u64) -> Result<(ShallowMapping, u64), Error> {
-        dispatch!(self, driver => driver.get_mapping(offset, max_length))
+        match self {
+            AnyDriver::Raw(driver) => driver.get_mapping(offset, max_length),
+            AnyDriver::Cow(driver) => driver.get_mapping(offset, max_length),
+            AnyDriver::Vmdk(driver) => {
+                let (mapping, count) = driver.get_mapping(offset, max_length)?;
+                Ok((mapping, count))
+            }
+            AnyDriver::Qcow2(driver) => {
+                let (mapping, count) = driver.get_mapping(offset, max_length)?;
+                Ok((mapping, count))
+            }
+        }
     }
 
     fn read_mapped(

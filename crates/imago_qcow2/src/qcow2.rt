@@ -776,6 +776,7 @@ impl<S: Storage> FormatDriverInstance for Qcow2<S> {
         self.cluster.length
     }
 
+    #[inline(never)]
     fn get_mapping(&self, offset: u64, max_length: u64) -> Result<(ShallowMapping, u64), Error> {
         if offset >= self.header.size {
             return Ok((ShallowMapping::Eof, 0));

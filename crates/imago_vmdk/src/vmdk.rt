@@ -529,6 +529,7 @@ impl<S: Storage> FormatDriverInstance for Vmdk<S> {
         self.storages.get(index - 1)
     }
 
+    #[inline(never)]
     fn get_mapping(&self, offset: u64, _max_length: u64) -> Result<(ShallowMapping, u64), Error> {
         if !self.opened {
             return Ok((ShallowMapping::Eof, 0));
